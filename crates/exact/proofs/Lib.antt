@@ -1,0 +1,10 @@
+pub mod Ring
+pub mod Polynomial
+pub mod Order
+pub mod Certificate
+pub mod Sizes
+pub mod Linear
+pub mod Machine
+pub mod NearestLaws
+pub mod Halves
+pub mod Division
