@@ -8,3 +8,4 @@ pub mod Machine
 pub mod NearestLaws
 pub mod Halves
 pub mod Division
+pub mod Witnesses

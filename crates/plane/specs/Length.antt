@@ -1,0 +1,20 @@
+-- Vectors of a nominal length K (01, "The job record", "Why a walk is turned down").
+use mathlib.Core.Bool.{Bool, _&&_}
+use lib.IntN.{ℤ, pos, _+ℤ_, _-ℤ_, _*ℤ_}
+use lib.Signed.{_≤ℤ_, leZ}
+use Rattle.plane.specs.declared.Vec2.{Vec2}
+use Rattle.plane.specs.Vector.{normSq}
+
+-- |v|² differs from K² by at most 2K
+unfoldable pub hasLength : Vec2 → ℤ → Bool
+hasLength v k = leZ (k *ℤ k -ℤ pos 2 *ℤ k) (normSq v) && leZ (normSq v) (k *ℤ k +ℤ pos 2 *ℤ k)
+
+-- |v|² differs from K² by at most e
+pub record Near (v : Vec2) (k e : ℤ) : Type 0 where
+  pub low : (k *ℤ k -ℤ e) ≤ℤ normSq v
+  pub high : normSq v ≤ℤ (k *ℤ k +ℤ e)
+
+-- the lengths in use: wheelbases from 5,000 to 200,000 and the headings' 1,000,000
+pub record Nominal (k : ℤ) : Type 0 where
+  pub least : pos 5000 ≤ℤ k
+  pub most : k ≤ℤ pos 1000000

@@ -1,0 +1,5 @@
+pub mod Vector
+pub mod Length
+pub mod Settle
+pub mod Drawn
+pub mod Run
