@@ -8,7 +8,7 @@ use native.Mathlib.Omega.{arith}
 use lib.Dec.{T, leb→le, le→leb, ltb, ltb→lt}
 use lib.IntN.{ℤ, pos, negsuc, negℤ, natAbs, _+ℤ_, _-ℤ_, _*ℤ_}
 use lib.Signed.{_≤ℤ_, leZ, mag}
-use mir.Syntax.{w32, w64}
+use mir.Syntax.{w64}
 use mir.Val.{SFits}
 use Rattle.exact.specs.Size.{Within}
 use Rattle.exact.proofs.Polynomial.{_⊕_, _⊗_, var}
@@ -53,9 +53,6 @@ within-mul {a} {b} {x} {y} p q = record { size = rw (abs-mul x y) (NatL.mul-le-m
 pub within-neg : {a : ℕ} {x : ℤ} → Within a x → Within a (negℤ x)
 within-neg {a} {x} p = record { size = rw (abs-neg x) (p .size) }
 
-pub within-pos : {n : ℕ} → Within n (pos n)
-within-pos {n} = record { size = NatL.le-refl n }
-
 pub within-more : {a b : ℕ} {x : ℤ} → a ≤ b → Within a x → Within b x
 within-more h p = record { size = NatL.le-trans (p .size) h }
 
@@ -97,13 +94,10 @@ pub within-second : (b : ℕ) (x y : ℤ) → (x *ℤ x +ℤ y *ℤ y) ≤ℤ (p
 within-second b x y h =
     within-first b y x (le {ρ = x ∷ y ∷ pos b ∷ []} (var 1 ⊗ var 1 ⊕ var 0 ⊗ var 0) (var 2 ⊗ var 2) (hyp (var 0 ⊗ var 0 ⊕ var 1 ⊗ var 1) (var 2 ⊗ var 2) h) tt)
 
--- a size below 2^63, or 2^31, fits a signed integer of 64, or 32, bits; `tt` computes the bound
+-- a size below 2^63 fits a signed integer of 64 bits; `tt` computes the bound
 pub mag-≤-abs : (z : ℤ) → mag z ≤ natAbs z
 mag-≤-abs (pos n) = NatL.le-refl n
 mag-≤-abs (negsuc n) = omega arith
 
 pub fits64 : {b : ℕ} {z : ℤ} → T (ltb b (2 ^ 63)) → Within b z → SFits w64 z
 fits64 {b} {z} t p = record { sfits = omega (arith, mag-≤-abs z, p .size, ltb→lt b (2 ^ 63) t) }
-
-pub fits32 : {b : ℕ} {z : ℤ} → T (ltb b (2 ^ 31)) → Within b z → SFits w32 z
-fits32 {b} {z} t p = record { sfits = omega (arith, mag-≤-abs z, p .size, ltb→lt b (2 ^ 31) t) }

@@ -1,11 +1,8 @@
 -- Settling (01, "Ticks, axes and rounding"): the paper's word for bringing a vector that is nearly K long closer to that length.
 use lib.IntN.{ℤ, pos, _-ℤ_, _*ℤ_}
 use Rattle.plane.specs.declared.Vec2.{Vec2}
-use Rattle.plane.specs.Vector.{normSq, nearestV}
+use Rattle.plane.specs.Vector.{times, normSq, nearestV}
 use Rattle.plane.specs.Length.{Near, Nominal}
-
-abbrev pub times : Vec2 → ℤ → Vec2
-times v n = record { x = v .x *ℤ n; y = v .y *ℤ n }
 
 -- each coordinate becomes nearest v × (3K² − |v|²) / (2K²)
 abbrev pub settleZ : Vec2 → ℤ → Vec2

@@ -1,5 +1,5 @@
 -- Vectors of whole numbers (01, "Ticks, axes and rounding"). X points east, Y north; a length is counted in ticks of a tenth of a millimetre.
-use lib.IntN.{ℤ, negℤ, _+ℤ_, _*ℤ_}
+use lib.IntN.{ℤ, negℤ, _+ℤ_, _-ℤ_, _*ℤ_}
 use Rattle.exact.specs.Size.{Within}
 use Rattle.exact.specs.Nearest.{nearestZ}
 use Rattle.plane.specs.declared.Vec2.{Vec2}
@@ -10,6 +10,15 @@ dot a b = a .x *ℤ b .x +ℤ a .y *ℤ b .y
 -- |v|²
 abbrev pub normSq : Vec2 → ℤ
 normSq v = dot v v
+
+abbrev pub plus : Vec2 → Vec2 → Vec2
+plus a b = record { x = a .x +ℤ b .x; y = a .y +ℤ b .y }
+
+abbrev pub minus : Vec2 → Vec2 → Vec2
+minus a b = record { x = a .x -ℤ b .x; y = a .y -ℤ b .y }
+
+abbrev pub times : Vec2 → ℤ → Vec2
+times v n = record { x = v .x *ℤ n; y = v .y *ℤ n }
 
 -- the right-hand normal of (x, y) is (y, −x)
 abbrev pub rightNormal : Vec2 → Vec2
