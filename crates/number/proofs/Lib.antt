@@ -1,0 +1,10 @@
+pub mod GroupLaws
+pub mod SignedLaws
+pub mod ManyLaws
+pub mod Codec
+pub mod CodecMany
+pub mod NumberCodec
+pub mod FieldCodec
+pub mod Writing
+pub mod Rows
+pub mod Witnesses
