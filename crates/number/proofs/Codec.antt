@@ -8,11 +8,7 @@ use native.Mathlib.Nat.{add-zero, add-assoc}
 use native.Mathlib.Numerals.{add-one}
 use lib.ListN.{length, drop, getD, length-append}
 use lib.Seq.{drop-drop, drop-append-seam}
-use Rattle.number.specs.Read.{Read, got, refused, Reader, pick, andThen, _>>=_, return, here, unless, many}
-
--- every number of a list is a byte
-abbrev pub Bytes : List ℕ → Type 0
-Bytes s = (i : ℕ) → getD s i 0 < 256
+use Rattle.number.specs.Read.{Bytes, Read, got, refused, Reader, pick, andThen, _>>=_, return, here, unless, many}
 
 -- r reads what w writes, and what r reads w writes; ok is what a value that was read meets
 pub record Codec {A : Type 0} (r : Reader A) (w : A → List ℕ) (ok : A → Type 0) : Type 0 where

@@ -6,8 +6,8 @@ use native.Mathlib.Omega.{arith}
 use native.Mathlib.Nat.{add-zero}
 use lib.ListN.{length, drop, take, length-append}
 use lib.Seq.{sets, sets-eq, take-at}
-use Rattle.number.specs.Read.{Read, got, refused, Reader, andThen, many, into, writeMany}
-use Rattle.number.proofs.Codec.{Codec, Bytes, past, first}
+use Rattle.number.specs.Read.{Bytes, Read, got, refused, Reader, andThen, many, into, writeMany}
+use Rattle.number.proofs.Codec.{Codec, past, first}
 
 -- k values, each of which meets ok at its state, and an end that is met
 abbrev pub Each : {T A : Type 0} → (T → A → Type 0) → (T → A → T) → (T → List A → Type 0) → ℕ → T → List A → Type 0

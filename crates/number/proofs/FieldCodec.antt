@@ -8,12 +8,12 @@ use lib.ListN.{length, drop}
 use lib.IntN.{ℤ, pos, negsuc, natAbs}
 use lib.Dec.{leb}
 use borrow.Author.Tests.{leb-true}
-use Rattle.number.specs.Read.{Read, got, Reader}
+use Rattle.number.specs.Read.{Bytes, Read, got, Reader}
 use Rattle.number.specs.Number.{writeNumber}
 use Rattle.number.specs.Signed.{fieldOf, signedOf, writeSigned}
 use Rattle.number.specs.Field.{within, sizeAtMost, field, signedNumber, signedField}
 use Rattle.number.specs.declared.Range.{Range}
-use Rattle.number.proofs.Codec.{Codec, Bytes, placed, lastly}
+use Rattle.number.proofs.Codec.{Codec, placed, lastly}
 use Rattle.number.proofs.NumberCodec.{number}
 use Rattle.number.proofs.SignedLaws.{field-signed, signed-field}
 

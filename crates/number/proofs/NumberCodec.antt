@@ -10,10 +10,10 @@ use lib.ListN.{length, drop, getD, length-drop}
 use lib.Seq.{drop-drop, drop-cons, getD-drop}
 use lib.Dec.{ltb}
 use borrow.Author.Tests.{lt-ltb, le-ltb, ltb-true, ltb-false}
-use Rattle.number.specs.Read.{Read, got, refused, Reader, pick}
+use Rattle.number.specs.Read.{Bytes, Read, got, refused, Reader, pick}
 use Rattle.number.specs.Number.{onto, groups, below32, readNumber, writeGroups, writeNumber}
 use Rattle.number.proofs.GroupLaws.{at-last, at-more, onto-pos}
-use Rattle.number.proofs.Codec.{Codec, Bytes}
+use Rattle.number.proofs.Codec.{Codec}
 
 -- what a position holds, from the list that starts there
 pub record Head (s : List ℕ) (at a : ℕ) (r : List ℕ) : Type 0 where

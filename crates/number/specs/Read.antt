@@ -1,8 +1,13 @@
 -- Reading at a position of a list of bytes, and writing one value after the other.
-use Prim.Native.Nat.{ℕ, zero, suc}
+use Prim.Native.Nat.{ℕ, zero, suc, _<_}
 use mathlib.Core.List.{List, [], _∷_, _++_}
 use mathlib.Core.Bool.{Bool, true, false}
+use lib.ListN.{getD}
 use lib.Seq.{sets}
+
+-- every number of a list is a byte
+abbrev pub Bytes : List ℕ → Type 0
+Bytes s = (i : ℕ) → getD s i 0 < 256
 
 -- a value with the position after it, or a refusal's number and place
 pub data Read (A : Type 0) : Type 0 where

@@ -1,0 +1,4 @@
+pub mod FaultLaws
+pub mod StepLaws
+pub mod Wide
+pub mod Witnesses

@@ -1,0 +1,98 @@
+use Prim.Native.Nat.{ℕ, _+_, _-_, _≤_}
+use native.Mathlib.Omega.{arith}
+use borrow.Author.Needs.{needs}
+use mathlib.Core.Path.{_≡_, _∙_, sym, ap, refl}
+use mathlib.Core.List.{List}
+use mathlib.Core.Bool.{Bool, true, false}
+use lib.ListN.{length, take, drop, getD}
+use lib.Dec.{eqb}
+use Rattle.job.specs.Faults.{firstOf, orFault, faultOf, unitFault, unitsFault}
+use Rattle.job.specs.Empty.{emptyUnit}
+use Rattle.job.specs.declared.Unit.{Unit as VehicleUnit}
+use Rattle.job.proofs.FaultLaws.{fault-next, fault-end}
+use Rattle.job.proofs.units_fault.Statement.{statement}
+use Rattle.job.proofs.units_fault.Tie as tie
+use Rattle.job.proofs.units_fault.Reads as reads
+use Rattle.job.proofs.units_fault.Lts as lts
+use Rattle.job.proofs.unit_allowed.Reads as unit-allowed-reads
+
+-- the fault of the units from i on
+abbrev left : ℕ → List VehicleUnit → ℕ → ℕ
+left count us i = faultOf (unitFault count) (λ i u. i + 1) (λ i. 0) i (drop i (take count us))
+
+abbrev Inv-loop : tie.InvT-loop
+Inv-loop count units i₀ i = (i ≤ count) × (length units ≡ 4) × (left count units i ≡ left count units 0)
+
+abbrev μ-loop : tie.MeasureT-loop
+μ-loop count units i₀ i = count - i
+
+-- one turn: the test of the unit at i, and of those after it
+turn : (c : tie.After-unit-allowed Inv-loop μ-loop) →
+    let l = c .before .before .before .loop in
+    let a = c .before .before .before .before .args in
+    firstOf (orFault (c .unit-allowed .result) 4 0) (left (a .count) (a .t1) (l .i + 1)) ≡ left (a .count) (a .t1) 0
+turn c =
+    let l = c .before .before .before .loop in
+    let s = c .before .before .before .before in
+    let a = s .args in
+    rw (c .unit-allowed .ensures) (sym (fault-next (unitFault (a .count)) (λ i u. i + 1) (λ i. 0) (a .t1) (a .count) (l .i) (l .i) emptyUnit (omega (arith, s .pre .most, l .inv .1)) (c .before .before .loop-test .taken)) ∙ l .inv .2)
+
+-- src/lib.rt:158:5
+loop-holds : tie.Need-loop-holds Inv-loop μ-loop
+loop-holds c = (omega arith, search needs, refl)
+
+-- src/lib.rt:159:17
+mul-u : tie.Need-mul-u Inv-loop μ-loop
+mul-u c = search needs
+
+-- src/lib.rt:159:17
+array-copy-out-u : tie.Need-array-copy-out-u Inv-loop μ-loop
+array-copy-out-u c = omega (arith, c .before .before .pre .most)
+
+-- src/lib.rt:160:33
+add-unit-allowed : tie.Need-add-unit-allowed Inv-loop μ-loop
+add-unit-allowed c = search needs
+
+-- src/lib.rt:160:12
+unit-allowed-requires : tie.Need-unit-allowed-requires Inv-loop μ-loop
+unit-allowed-requires c κs = search needs
+
+-- src/lib.rt:161:13
+add-i : tie.Need-add-i Inv-loop μ-loop
+add-i c = search needs
+
+-- src/lib.rt:158:5
+loop-less : tie.Need-loop-less Inv-loop μ-loop
+loop-less c = search needs
+
+-- src/lib.rt:158:5
+loop-again : tie.Need-loop-again Inv-loop μ-loop
+loop-again c = (omega arith, c .before .before .before .before .loop .inv .1, rw (c .if1 .taken) at (turn (c .before)))
+
+-- src/lib.rt:163:13
+returns : tie.Need-returns Inv-loop μ-loop
+unfolding unitsFault
+returns c = rw (c .if1 .left) at (turn (c .before))
+
+-- src/lib.rt:153:1
+returns-2 : tie.Need-returns-2 Inv-loop μ-loop
+unfolding unitsFault
+returns-2 c = let l = c .before .loop in
+    sym (fault-end _ _ (λ i. 0) (c .before .before .args .t1) (c .before .before .args .count) (l .i) (l .i) (c .loop-test .left)) ∙ l .inv .2
+
+pub units-fault-spec : {M : Type 1} → statement M
+units-fault-spec =
+    tie.close
+    (tie.spec
+    Inv-loop
+    μ-loop
+    loop-holds
+    mul-u
+    array-copy-out-u
+    add-unit-allowed
+    unit-allowed-requires
+    add-i
+    loop-less
+    loop-again
+    returns
+    returns-2)

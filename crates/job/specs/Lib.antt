@@ -1,0 +1,6 @@
+pub mod Allowed
+pub mod Curves
+pub mod Steps
+pub mod Faults
+pub mod Empty
+pub mod Inner
