@@ -56,14 +56,40 @@ pub struct Job {
 }
 
 pub const UNIT_COUNT: Range = Range { least: 1, most: 4 };
-pub const WHEELBASE: Range = Range { least: 5000, most: 200000 };
-pub const OVERHANG: Range = Range { least: 0, most: 50000 };
-pub const HALF_WIDTH: Range = Range { least: 1000, most: 20000 };
+
+pub const WHEELBASE: Range = Range {
+    least: 5000,
+    most: 200000,
+};
+
+pub const OVERHANG: Range = Range {
+    least: 0,
+    most: 50000,
+};
+
+pub const HALF_WIDTH: Range = Range {
+    least: 1000,
+    most: 20000,
+};
+
 pub const COORDINATE: u32 = 100000000;
-pub const STEP: Range = Range { least: 100, most: 20000 };
+
+pub const STEP: Range = Range {
+    least: 100,
+    most: 20000,
+};
+
 pub const ELEMENT_COUNT: Range = Range { least: 1, most: 64 };
-pub const LENGTH: Range = Range { least: 1, most: 40000000 };
-pub const RADIUS: Range = Range { least: 20000, most: 1000000 };
+
+pub const LENGTH: Range = Range {
+    least: 1,
+    most: 40000000,
+};
+
+pub const RADIUS: Range = Range {
+    least: 20000,
+    most: 1000000,
+};
 
 // The greatest size of a hitch; the last unit has none.
 pub fn hitch_most(last: bool, wheelbase: u32) -> u32

@@ -1,0 +1,3 @@
+pub mod CurveLaws
+pub mod ReadLaws
+pub mod Rows

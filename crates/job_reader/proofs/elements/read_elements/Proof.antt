@@ -1,0 +1,136 @@
+use Prim.Native.Nat.{ℕ, _≤_, _-_, _+_, _*_}
+use native.Mathlib.Omega.{arith}
+use native.Mathlib.Nat.{sub-zero}
+use borrow.Author.Needs.{needs}
+use mathlib.Core.Path.{_≡_, _∙_, sym, ap}
+use mathlib.Core.List.{List}
+use Rattle.number.specs.Read.{Reader, got, refused, many, into}
+use Rattle.number.proofs.ManyLaws.{into-end, into-more, into-refused}
+use Rattle.job.specs.Steps.{tally}
+use Rattle.job.specs.declared.Element.{Element}
+use Rattle.job_reader.specs.Record.{readElement, readTotal, readElements}
+use Rattle.job_reader.specs.Answers.{beside}
+use Rattle.job_reader.proofs.ReadLaws.{tally-read}
+use Rattle.job_reader.proofs.elements.read_elements.Statement.{statement}
+use Rattle.job_reader.proofs.elements.read_elements.Tie as tie
+use Rattle.job_reader.proofs.elements.read_elements.Reads as reads
+use Rattle.job_reader.proofs.elements.read_elements.Lts as lts
+use Rattle.job.proofs.empty_elements.Reads as empty-elements-reads
+use Rattle.job.proofs.steps_allowed.Reads as steps-allowed-reads
+use Rattle.job.proofs.tally_element.Reads as tally-element-reads
+use Rattle.job_reader.proofs.elements.read_element.Reads as read-element-reads
+
+-- the elements from i on, with the steps of those before them
+abbrev rest : ℕ → ℕ → ℕ → ℕ → ℕ → Reader (List Element)
+rest step place count i total = many (λ t. readElement) (tally step) (readTotal place) (count - i) total
+
+abbrev Inv-loop : tie.InvT-loop
+Inv-loop s count step place elements₀ at₀ total₀ i₀ elements at total i = (i ≤ count) × (total ≤ i * 40000001) × (into elements i (rest step place count i total s (at .at)) ≡ readElements step place count s (at₀ .at))
+
+abbrev μ-loop : tie.MeasureT-loop
+μ-loop s count step place elements₀ at₀ total₀ i₀ elements at total i = count - i
+
+-- after the last element the total is tested
+done : (c : tie.After-steps-allowed Inv-loop μ-loop) →
+    let l = c .before .before .loop in
+    let o = c .before .before .before .before .before in
+    into (l .elements) (l .i) (readTotal (o .args .place) (l .total) (o .args .s .now) (l .at .at)) ≡ readElements (o .args .step) (o .args .place) (o .args .count) (o .args .s .now) (o .args .c .at)
+done c =
+    let l = c .before .before .loop in
+    let o = c .before .before .before .before .before in
+    sym (into-end (λ t. readElement) (tally (o .args .step)) (readTotal (o .args .place)) (o .args .s .now) (l .elements) (o .args .count) (l .i) (l .at .at) (l .total) (c .before .loop-test .left)) ∙ l .inv .2
+
+-- src/elements.rt:134:24
+empty-elements-requires : tie.Need-empty-elements-requires Inv-loop μ-loop
+empty-elements-requires c κs = search needs
+
+-- src/elements.rt:138:5
+loop-holds : tie.Need-loop-holds Inv-loop μ-loop
+unfolding readElements
+loop-holds c = (omega arith, omega arith, rw (c .empty-elements .ensures, sub-zero))
+
+-- src/elements.rt:139:13
+read-element-requires : tie.Need-read-element-requires Inv-loop μ-loop
+read-element-requires c κs = search needs
+
+-- src/elements.rt:141:24
+enum-known-a : tie.Need-enum-known-a Inv-loop μ-loop
+enum-known-a c = search needs
+
+-- src/elements.rt:144:17
+enum-told : tie.Need-enum-told Inv-loop μ-loop
+enum-told c = search needs
+
+-- src/elements.rt:142:13
+returns : tie.Need-returns Inv-loop μ-loop
+returns c = let l = c .before .before .before .before .loop in
+    let a = c .before .before .before .before .before .before .before .args in
+    rw (c .enum-told .given .1)
+    (sym (into-refused (λ t. readElement) (tally (a .step)) (readTotal (a .place)) _ (l .elements) (a .count) (l .i) _ (l .total) (c .before .before .before .loop-test .taken) (sym (ap (beside (c .before .before .read-element .result .element)) (c .enum-told .given .1)) ∙ c .before .before .read-element .ensures)) ∙ l .inv .2)
+
+-- src/elements.rt:148:9
+mul-elements : tie.Need-mul-elements Inv-loop μ-loop
+mul-elements c = search needs
+
+-- src/elements.rt:148:9
+array-set-from-elements : tie.Need-array-set-from-elements Inv-loop μ-loop
+array-set-from-elements c = omega (arith, c .before .before .before .before .before .before .before .before .before .pre .most, c .before .before .before .before .before .loop-test .taken)
+
+-- src/elements.rt:149:9
+tally-element-requires : tie.Need-tally-element-requires Inv-loop μ-loop
+tally-element-requires c κs = record { positive = c .before .before .before .before .before .before .before .before .before .pre .positive; room = omega (arith, c .before .before .before .before .before .before .loop .inv .1, c .before .before .before .before .before .before .before .before .before .pre .most, c .before .before .before .before .before .loop-test .taken) }
+
+-- src/elements.rt:151:9
+add-i : tie.Need-add-i Inv-loop μ-loop
+add-i c = search needs
+
+-- src/elements.rt:138:5
+loop-less : tie.Need-loop-less Inv-loop μ-loop
+loop-less c = search needs
+
+-- src/elements.rt:138:5
+loop-again : tie.Need-loop-again Inv-loop μ-loop
+loop-again c = let l = c .before .before .before .before .before .before .before .loop in
+    let a = c .before .before .before .before .before .before .before .before .before .before .args in
+    let r = c .before .before .before .before .before .read-element in
+    let e = r .result .element in
+    let g = sym (ap (beside e) (c .before .before .before .a .given .1)) ∙ r .ensures in
+    let t : c .tally-element .result ≡ tally (a .step) (l .total) e = c .tally-element .ensures in (
+      omega arith,
+      omega (arith, t, l .inv .1, tally-read (a .step) (l .total) _ _ e _ (sym g)),
+      rw t (sym (into-more (λ t. readElement) (tally (a .step)) (readTotal (a .place)) _ (l .elements) (a .count) (l .i) _ (l .total) (c .before .before .before .before .before .before .loop-test .taken) g) ∙ l .inv .2),
+    )
+
+-- src/elements.rt:153:8
+steps-allowed-requires : tie.Need-steps-allowed-requires Inv-loop μ-loop
+steps-allowed-requires c κs = search needs
+
+-- src/elements.rt:154:9
+returns-2 : tie.Need-returns-2 Inv-loop μ-loop
+returns-2 c = rw (sym (c .before .steps-allowed .ensures) ∙ c .if1 .taken) at (done (c .before))
+
+-- src/elements.rt:130:1
+returns-3 : tie.Need-returns-3 Inv-loop μ-loop
+returns-3 c = rw (sym (c .before .steps-allowed .ensures) ∙ c .if1 .left) at (done (c .before))
+
+pub read-elements-spec : {M : Type 1} → statement M
+read-elements-spec =
+    tie.close
+    (tie.spec
+    Inv-loop
+    μ-loop
+    empty-elements-requires
+    loop-holds
+    read-element-requires
+    enum-known-a
+    enum-told
+    returns
+    mul-elements
+    array-set-from-elements
+    tally-element-requires
+    add-i
+    loop-less
+    loop-again
+    steps-allowed-requires
+    returns-2
+    returns-3)
