@@ -1,4 +1,5 @@
 pub mod FaultLaws
+pub mod FieldLaws
 pub mod StepLaws
 pub mod Wide
 pub mod Witnesses

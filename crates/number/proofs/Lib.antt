@@ -6,5 +6,6 @@ pub mod CodecMany
 pub mod NumberCodec
 pub mod FieldCodec
 pub mod Writing
+pub mod Widths
 pub mod Rows
 pub mod Witnesses

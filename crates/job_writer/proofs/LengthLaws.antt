@@ -1,0 +1,151 @@
+-- A job without a fault takes no more bytes than its fields' widths come to. Assumes nothing.
+use Prim.Native.Nat.{ℕ, zero, suc, _+_, _*_, _^_, _≤_, _<_}
+use mathlib.Core.Path.{_≡_}
+use mathlib.Core.List.{List, [], _∷_, _++_}
+use mathlib.Core.Bool.{Bool, true, _&&_}
+use native.Mathlib.Omega.{arith}
+use lib.ListN.{length, take, getD, length-append, length-take}
+use lib.Seq.{getD-take}
+use lib.IntN.{ℤ, natAbs}
+use lib.Dec.{eqb, leb}
+use borrow.Author.Tests.{leb-true}
+use Rattle.number.specs.Read.{writeMany}
+use Rattle.number.specs.Number.{writeNumber}
+use Rattle.number.specs.Signed.{fieldOf, writeSigned}
+use Rattle.number.proofs.FieldCodec.{both, within-most, sized-most, field-size}
+use Rattle.number.proofs.Widths.{number-width, many-width}
+use Rattle.job.specs.Allowed.{unitCountAllowed, wheelbaseAllowed, hitchMost, hitchAllowed, foldAllowed, overhangAllowed, halfWidthAllowed, coordinateAllowed, headingAllowed, lengthAllowed, curveAllowed, unitAllowed, widthsAllowed, startAllowed, elementAllowed}
+use Rattle.job.specs.Curves.{radiusOf}
+use Rattle.job.specs.Steps.{tally}
+use Rattle.job.specs.Faults.{orFault, firstOf, faultOf, unitFault, unitsFault, elementFault, totalFault, elementsFault, judge}
+use Rattle.job.specs.Empty.{emptyElement}
+use Rattle.job.specs.declared.Unit.{Unit as VehicleUnit}
+use Rattle.job.specs.declared.Vehicle.{Vehicle}
+use Rattle.job.specs.declared.Start.{Start}
+use Rattle.job.specs.declared.Element.{Element}
+use Rattle.job.specs.declared.Job.{Job}
+use Rattle.job.proofs.FaultLaws.{first-none, or-none, fault-at, Sound, sound, SoundVehicle, sound-vehicle}
+use Rattle.job.proofs.FieldLaws.{hitch-most, fold-size, heading-sizes, radius-size}
+use Rattle.job_writer.specs.Write.{writeUnit, writeWidths, writeVehicle, writeStart, writeElement, writePath, writeJob}
+use Rattle.job_writer.specs.Length.{unitWidth, widthsWidth, startWidth, elementWidth, longestRecord}
+
+-- a number in a range, by the range's most
+ranged : (k least most v : ℕ) → most < 128 ^ suc k → (leb least v && leb v most) ≡ true → length (writeNumber v) ≤ suc k
+ranged k least most v h t = number-width k v (omega (arith, leb-true v most (both (leb least v) (leb v most) t .1)))
+
+-- a signed number, by its size
+sized : (k most : ℕ) (z : ℤ) → 2 * most < 128 ^ suc k → natAbs z ≤ most → length (writeSigned z) ≤ suc k
+sized k most z h s = number-width k (fieldOf z) (omega (arith, field-size z))
+
+pub unit-length : (first last : Bool) (u : VehicleUnit) → unitAllowed first last u ≡ true → length (writeUnit u) ≤ unitWidth
+unit-length first last u t =
+    let a = both (wheelbaseAllowed (u .wheelbase)) (hitchAllowed last (u .wheelbase) (u .hitch) && foldAllowed first (u .fold)) t in
+    let b = both (hitchAllowed last (u .wheelbase) (u .hitch)) (foldAllowed first (u .fold)) (a .1) in
+    let w : u .wheelbase ≤ 200000 = within-most (record { least = 5000; most = 200000 }) (u .wheelbase) (a .0) in
+    let h : natAbs (u .hitch) ≤ 200000 = omega (arith, w, hitch-most last (u .wheelbase), leb-true (natAbs (u .hitch)) (hitchMost last (u .wheelbase)) (b .0)) in
+    omega (
+      arith,
+      length-append (writeNumber (u .wheelbase)) (writeSigned (u .hitch) ++ writeSigned (u .fold)),
+      length-append (writeSigned (u .hitch)) (writeSigned (u .fold)),
+      number-width 2 (u .wheelbase) (omega arith),
+      sized 2 200000 (u .hitch) (omega arith) h,
+      sized 1 1000 (u .fold) (omega arith) (fold-size first (u .fold) (b .1)),
+    )
+
+pub widths-length : (v : Vehicle) → widthsAllowed v ≡ true → length (writeWidths v) ≤ widthsWidth
+widths-length v t =
+    let a = both (overhangAllowed (v .overhang)) (halfWidthAllowed (v .«front_half_width») && halfWidthAllowed (v .«rear_half_width»)) t in
+    let b = both (halfWidthAllowed (v .«front_half_width»)) (halfWidthAllowed (v .«rear_half_width»)) (a .1) in
+    omega (
+      arith,
+      length-append (writeNumber (v .overhang)) (writeNumber (v .«front_half_width») ++ writeNumber (v .«rear_half_width»)),
+      length-append (writeNumber (v .«front_half_width»)) (writeNumber (v .«rear_half_width»)),
+      ranged 2 0 50000 (v .overhang) (omega arith) (a .0),
+      ranged 2 1000 20000 (v .«front_half_width») (omega arith) (b .0),
+      ranged 2 1000 20000 (v .«rear_half_width») (omega arith) (b .1),
+    )
+
+pub start-length : (s : Start) → startAllowed s ≡ true → length (writeStart s) ≤ startWidth
+start-length s t =
+    let a = both (coordinateAllowed (s .x)) (coordinateAllowed (s .y) && headingAllowed (s .gx) (s .gy)) t in
+    let b = both (coordinateAllowed (s .y)) (headingAllowed (s .gx) (s .gy)) (a .1) in
+    let g = heading-sizes (s .gx) (s .gy) (b .1) in
+    omega (
+      arith,
+      length-append (writeSigned (s .x)) (writeSigned (s .y) ++ (writeSigned (s .gx) ++ writeSigned (s .gy))),
+      length-append (writeSigned (s .y)) (writeSigned (s .gx) ++ writeSigned (s .gy)),
+      length-append (writeSigned (s .gx)) (writeSigned (s .gy)),
+      sized 3 100000000 (s .x) (omega arith) (leb-true (natAbs (s .x)) 100000000 (a .0)),
+      sized 3 100000000 (s .y) (omega arith) (leb-true (natAbs (s .y)) 100000000 (b .0)),
+      sized 2 1000000 (s .gx) (omega arith) (g .0),
+      sized 2 1000000 (s .gy) (omega arith) (g .1),
+    )
+
+pub element-length : (e : Element) → elementAllowed e ≡ true → length (writeElement e) ≤ elementWidth
+element-length e t =
+    let a = both (lengthAllowed (e .length)) (curveAllowed (e .curve)) t in
+    omega (
+      arith,
+      length-append (writeNumber (e .length)) (writeSigned (radiusOf (e .curve))),
+      ranged 3 1 40000000 (e .length) (omega arith) (a .0),
+      sized 2 1000000 (radiusOf (e .curve)) (omega arith) (radius-size (e .curve) (a .1)),
+    )
+
+-- values in a row without a fault
+many-length : {T A : Type 0} (w : A → List ℕ) (m : ℕ) (one : T → A → ℕ) (next : T → A → T) (end : T → ℕ) → ((t : T) (x : A) → one t x ≡ 0 → length (w x) ≤ m) → (t : T) (xs : List A) → faultOf one next end t xs ≡ 0 → length (writeMany w xs) ≤ length xs * m
+unfolding faultOf
+many-length w m one next end f t [] h = unfold writeMany in (omega arith)
+many-length w m one next end f t (x ∷ xs) h =
+    let n = first-none (one t x) (faultOf one next end (next t x) xs) h in
+    many-width w m x xs (f t x (n .0)) (many-length w m one next end f (next t x) xs (n .1))
+
+pub units-length : (count : ℕ) (us : List VehicleUnit) → count ≤ 4 → unitsFault count us ≡ 0 → length (writeMany writeUnit (take count us)) ≤ 4 * unitWidth
+unfolding unitsFault
+units-length count us h f = omega (
+  arith,
+  length-take count us,
+  many-length writeUnit unitWidth (unitFault count) (λ i u. i + 1) (λ i. 0) (λ i u t. unit-length (eqb i 0) (eqb (i + 1) count) u (or-none (unitAllowed (eqb i 0) (eqb (i + 1) count) u) 3 0 t .0)) 0 (take count us) f,
+)
+
+pub elements-length : (step count : ℕ) (es : List Element) → count ≤ 64 → elementsFault step count es ≡ 0 → length (writeMany writeElement (take count es)) ≤ 64 * elementWidth
+unfolding elementsFault
+elements-length step count es h f = omega (
+  arith,
+  length-take count es,
+  many-length writeElement elementWidth elementFault (tally step) totalFault (λ t e q. element-length e (or-none (elementAllowed e) 7 0 q .0)) 0 (take count es) f,
+)
+
+pub record-length : (j : Job) → judge j ≡ 0 → length (writeJob j) ≤ longestRecord
+unfolding writeJob
+record-length j h =
+    let s = sound j h in
+    let v = sound-vehicle (j .vehicle) (s .vehicle) in
+    let n : j .vehicle .count ≤ 4 = within-most (record { least = 1; most = 4 }) (j .vehicle .count) (v .count) in
+    let m : j .count ≤ 64 = within-most (record { least = 1; most = 64 }) (j .count) (s .count) in
+    let us = writeMany writeUnit (take (j .vehicle .count) (j .vehicle .units)) in
+    let es = writeMany writeElement (take (j .count) (j .elements)) in
+    omega (
+      arith,
+      length-append (writeVehicle (j .vehicle)) (writeStart (j .start) ++ writePath j),
+      length-append (writeStart (j .start)) (writePath j),
+      length-append (writeNumber (j .vehicle .count)) (us ++ writeWidths (j .vehicle)),
+      length-append us (writeWidths (j .vehicle)),
+      length-append (writeNumber (j .step)) (writeNumber (j .count) ++ es),
+      length-append (writeNumber (j .count)) es,
+      number-width 0 (j .vehicle .count) (omega arith),
+      units-length (j .vehicle .count) (j .vehicle .units) n (v .units),
+      widths-length (j .vehicle) (v .widths),
+      start-length (j .start) (s .start),
+      ranged 2 100 20000 (j .step) (omega arith) (s .step),
+      number-width 0 (j .count) (omega arith),
+      elements-length (j .step) (j .count) (j .elements) m (s .elements),
+    )
+
+-- each element of a job without a fault is allowed
+pub elements-allowed : (step count : ℕ) (es : List Element) → count ≤ length es → elementsFault step count es ≡ 0 → (i : ℕ) → i < count → curveAllowed (getD es i emptyElement .curve) ≡ true
+unfolding elementsFault
+elements-allowed step count es h f i l =
+    let q = fault-at elementFault (tally step) totalFault 0 (take count es) i emptyElement f (omega (arith, length-take count es)) in
+    let e = getD es i emptyElement in
+    let t : elementAllowed e ≡ true = or-none (elementAllowed e) 7 0 (rw (getD-take count es i emptyElement l) at (q .1)) .0 in
+    both (lengthAllowed (e .length)) (curveAllowed (e .curve)) t .1

@@ -1,0 +1,5 @@
+pub mod Write
+pub mod Encoding
+pub mod Length
+pub mod Answers
+pub mod Inner
