@@ -3,3 +3,5 @@ pub mod AnswerLaws
 pub mod Arrays
 pub mod CurveLaws
 pub mod LengthLaws
+pub mod PartCodecs
+pub mod RecordCodec
