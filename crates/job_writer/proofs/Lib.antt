@@ -4,4 +4,9 @@ pub mod Arrays
 pub mod CurveLaws
 pub mod LengthLaws
 pub mod PartCodecs
+pub mod Reach
 pub mod RecordCodec
+pub mod RoundTrip
+pub mod ClaimLaws
+pub mod Tied
+pub mod Witnesses

@@ -7,6 +7,7 @@ ghost use Prim.Native.Nat.{_≤_};
 ghost use lib.ListN.{length, take};
 ghost use lib.Seq.{sets};
 ghost use Rattle.job_writer.specs.Answers.{WriteEnsures};
+ghost use Rattle.job_writer.specs.Claims.{OneEncoding, RecordLength};
 ghost use Rattle.job_writer.specs.Inner.{Copied};
 
 // The most bytes that a record may be encoded in.
@@ -50,3 +51,13 @@ pub fn write_job(j: Job, run: &mut [u8]) -> Wrote
     copy_bytes(run, bytes, count);
     Wrote::Bytes(count)
 }
+
+// Each job has one encoding, as the reader and the writer ensure it. (A claim: it runs nothing.)
+pub fn one_encoding()
+    ensures { λ _. ⌜ OneEncoding ⌝ }
+{}
+
+// An accepted job is under 520 bytes, and the first 1,024 bytes of any input decide the answer. (A claim: it runs nothing.)
+pub fn record_length()
+    ensures { λ _. ⌜ RecordLength ⌝ }
+{}

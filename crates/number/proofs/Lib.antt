@@ -7,5 +7,6 @@ pub mod NumberCodec
 pub mod FieldCodec
 pub mod Writing
 pub mod Widths
+pub mod Locality
 pub mod Rows
 pub mod Witnesses

@@ -1,0 +1,73 @@
+-- The claims about reading and writing jobs. Assumes nothing.
+use Prim.Native.Nat.{ℕ, zero, suc, _+_, _≤_, _<_}
+use mathlib.Core.Path.{_≡_, refl, sym, _∙_, ap, subst}
+use mathlib.Core.List.{List, []}
+use native.Mathlib.Omega.{arith}
+use lib.ListN.{length, take}
+use lib.Seq.{sets}
+use lib.Dec.{leb}
+use mathlib.Core.Bool.{Bool, true, false}
+use borrow.Author.Tests.{le-leb, leb-true}
+use Rattle.number.specs.Read.{Bytes, Read, got, refused, pick}
+use Rattle.number.proofs.CodecMany.{take-sets}
+use Rattle.job.specs.Faults.{orFault, firstOf, judge}
+use Rattle.job.specs.Empty.{cleared}
+use Rattle.job.specs.declared.Job.{Job}
+use Rattle.job.proofs.FaultLaws.{first-none, or-none}
+use Rattle.job_reader.specs.Record.{readJob}
+use Rattle.job_reader.specs.Answers.{jobRead, ReadEnsures}
+use Rattle.job_reader.specs.declared.ReadAnswer.the-variants as A
+use Rattle.job_reader.specs.declared.JobRead.{JobRead}
+use Rattle.job_writer.specs.Write.{writeJob}
+use Rattle.job_writer.specs.Length.{longestRecord}
+use Rattle.job_writer.specs.Answers.{writeFault, wrote, runAfter, WriteEnsures}
+use Rattle.job_writer.specs.Claims.{OneEncoding, RecordLength}
+use Rattle.job_writer.specs.declared.Wrote.{Wrote}
+use Rattle.job_writer.specs.declared.Wrote.the-variants as W
+use Rattle.job_writer.proofs.LengthLaws.{record-length}
+use Rattle.job_writer.proofs.RoundTrip.{Back, written-read, read-written, Same, cleared-same}
+use Rattle.job_writer.proofs.Reach.{first-bytes}
+
+-- an accepted reading is one of the job beside it
+accepted : (x : Read Job) (r : JobRead) → r ≡ jobRead x → r .answer ≡ A.Accepted → (e : ℕ) × (x ≡ got (r .job) e)
+accepted (got j e) r p a = (e, (let q : j ≡ r .job = sym (ap (λ (x : JobRead). x .job) p) in ap (λ (y : Job). got y e) q))
+accepted (refused n q) r p a = absurd (let b : A.Refused n q ≡ A.Accepted = sym (ap (λ (x : JobRead). x .answer) p) ∙ a in let z : _≡_ {A = ℕ} 0 1 = cc in omega arith)
+
+-- what was read has no fault, and is written as it was
+back : (s : List ℕ) (r : JobRead) → ReadEnsures s r → r .answer ≡ A.Accepted → (e : ℕ) × Back s (r .job) e
+back s r h a =
+    let q = accepted (readJob s) r (h .answer) a in
+    (q .0, read-written s (r .job) (q .0) (h .bytes) (q .1))
+
+-- bytes were written where there was no fault
+made : (f n m : ℕ) → W.Bytes n ≡ wrote f m → (f ≡ 0) × (n ≡ m)
+made zero n m p = (refl, cc)
+made (suc f) n m p = absurd (let z : _≡_ {A = ℕ} 0 1 = cc in omega arith)
+
+pub one-encoding : OneEncoding
+one-encoding = record {
+  write-after-read = λ s r h a before w after k l.
+      let b = back s r h a .1 in
+      let n : length (writeJob (r .job)) ≤ length before = omega (arith, ap length (b .written)) in
+      let f : writeFault (r .job) (length before) ≡ 0 = rw (b .judged, le-leb (length (writeJob (r .job))) (length before) n) in
+      (k .answer ∙ rw (f, b .written), k .written ∙ rw (f, b .written));
+  read-after-write = λ j before n after k r h.
+      let m = made (writeFault j (length before)) n (length (writeJob j)) (k .answer) in
+      let f = first-none (judge j) (orFault (leb (length (writeJob j)) (length before)) 28 0) (m .0) in
+      let l : length (writeJob j) ≤ length before = leb-true (length (writeJob j)) (length before) (or-none (leb (length (writeJob j)) (length before)) 27 0 (f .1) .0) in
+      let c = cleared-same j (k .units) (k .elements) (f .0) in
+      let a : after ≡ sets before 0 (writeJob j) = k .written ∙ rw (m .0) in
+      let t : take n after ≡ writeJob (cleared j) = rw (a, m .1) (take-sets before (writeJob j) (length (writeJob j)) refl l) ∙ sym (c .written) in
+      h .answer ∙ ap (λ (x : List ℕ). jobRead (readJob x)) t ∙ ap jobRead (written-read (cleared j) (c .judged) (c .once));
+  one = λ s t r q h k a b e.
+      sym (back s r h a .1 .written) ∙ ap writeJob e ∙ back t q k b .1 .written;
+}
+
+pub length-claim : RecordLength
+length-claim = record {
+  longest = λ s r h a.
+      let b = back s r h a .1 in
+      omega (arith, record-length (r .job) (b .judged), ap length (b .written));
+  under = omega arith;
+  enough = λ s r q h k. h .answer ∙ ap jobRead (sym (first-bytes 1024 s (omega arith))) ∙ sym (k .answer);
+}
