@@ -1,5 +1,6 @@
 // Whole-number division as the papers round it.
 ghost use mathlib.Core.Path.{_≡_};
+ghost use lib.IntN.{pos};
 ghost use Rattle.exact.specs.Nearest.{nearestZ, Divisor, NearestRule};
 
 // The nearest whole number to n / d, halves away from zero.
@@ -21,3 +22,17 @@ pub fn nearest(n: i64, d: i64) -> i64
 pub fn nearest_rule()
     ensures { λ _. ⌜ NearestRule ⌝ }
 {}
+
+// An unsigned number, wide and signed.
+pub fn wide(x: u32) -> i64
+    ensures { λ r. ⌜ r ≡ pos x ⌝ }
+{
+    x as i64
+}
+
+// A signed number, wide.
+pub fn wide_signed(z: i32) -> i64
+    ensures { λ r. ⌜ r ≡ z ⌝ }
+{
+    z as i64
+}
