@@ -14,7 +14,7 @@ use Rattle.exact.specs.Nearest.{halfTo, nearestSize, nearestZ}
 use Rattle.exact.proofs.Polynomial.{Expr, _⊕_, _⊖_, _⊗_, _⊜_, neg, lit, var, ring3}
 use Rattle.exact.proofs.Order.{≤ℤ-antisym, by-contradiction, pos-≤, ≤-pos}
 use Rattle.exact.proofs.Certificate.{_⊞_, _⊠_, _·_, num, hyp, le, never}
-use Rattle.exact.proofs.Sizes.{abs-neg-pos}
+use Rattle.exact.proofs.Sizes.{abs-neg-pos, within}
 
 -- the three ways a size is rounded
 module _ (a d : ℕ) where
@@ -140,3 +140,15 @@ nearest-multiple q d h =
     ≤ℤ-antisym
     (by-contradiction (λ g. let G = hyp {ρ = ρ} (var 1 ⊕ lit 1) (var 0) g in never 0 (H ⊞ 2 · ((D ⊞ num 1) ⊠ G) ⊞ D) tt))
     (by-contradiction (λ g. let G = hyp {ρ = ρ} (var 0 ⊕ lit 1) (var 1) g in never 0 (L ⊞ 2 · ((D ⊞ num 1) ⊠ G) ⊞ D) tt))
+
+-- no larger than a bound of the exact quotient
+pub nearest-bounded : (n d : ℤ) (b : ℕ) → pos 1 ≤ℤ d → negℤ (d *ℤ pos b) ≤ℤ n → n ≤ℤ (d *ℤ pos b) → Within b (nearestZ n d)
+nearest-bounded n d b h low high =
+    let ρ : List ℤ = nearestZ n d ∷ n ∷ d ∷ pos b ∷ [] in
+    let E = lit 2 ⊗ (var 2 ⊗ var 0 ⊖ var 1) in
+    let D = hyp {ρ = ρ} (lit 1) (var 2) h in
+    let H = hyp {ρ = ρ} E (var 2) (nearest-high n d h) in
+    let L = hyp {ρ = ρ} (neg (var 2)) E (nearest-low n d h) in
+    within
+    (by-contradiction (λ g. let G = hyp {ρ = ρ} (var 0 ⊕ lit 1) (neg (var 3)) g in never 0 (L ⊞ 2 · hyp (neg (var 2 ⊗ var 3)) (var 1) low ⊞ 2 · ((D ⊞ num 1) ⊠ G) ⊞ D) tt))
+    (by-contradiction (λ g. let G = hyp {ρ = ρ} (var 3 ⊕ lit 1) (var 0) g in never 0 (H ⊞ 2 · hyp (var 1) (var 2 ⊗ var 3) high ⊞ 2 · ((D ⊞ num 1) ⊠ G) ⊞ D) tt))

@@ -5,12 +5,14 @@ use mathlib.Core.List.{List, [], _∷_}
 use Prim.Native.Nat.{ℕ, zero, suc, _≤_, _*_}
 use native.Mathlib.Omega.{arith}
 use borrow.Author.Tests.{leb-true, ltb-false, lt-ltb}
-use lib.Dec.{leb, ltb→lt}
+use lib.Dec.{leb, ltb→lt, lit≤}
+use native.Mathlib.Nat as NatL
 use lib.IntN.{ℤ, pos, negsuc, negℤ, natAbs, _+ℤ_, _-ℤ_, _*ℤ_, +ℤ-idl}
 use lib.Signed.{_≤ℤ_, ltZ, yes-nonNeg, pos-natAbs}
 use Rattle.exact.proofs.Order.{of-true, of-false, pos-≤, ≤-pos}
 use Rattle.exact.specs.Size.{Within}
-use Rattle.exact.proofs.Sizes.{abs-neg}
+use Rattle.exact.proofs.NearestLaws.{nearest-bounded}
+use Rattle.exact.proofs.Sizes.{abs-neg, within-add, within-mul, ≤-size, ≥-size}
 use Rattle.exact.proofs.Machine.{Bounded, none, _∷ᵇ_}
 use mir.Syntax.{w64}
 use mir.Val.{SFits}
@@ -19,7 +21,7 @@ use Rattle.plane.specs.declared.Vec2.{Vec2}
 use Rattle.plane.specs.Length.{Near}
 use Rattle.job.specs.Allowed.{between}
 use Rattle.job.specs.Curves.{radiusAllowed}
-use Rattle.heading.specs.Turn.{headingLength, turnedBy, headingAfter, tangentOf, Tangent}
+use Rattle.heading.specs.Turn.{headingLength, turnedBy, headingAfter, moveOf, Tangent}
 use Rattle.heading.specs.PathTurn.{Steerable, Movable}
 use Rattle.heading.proofs.Rotation.{turned-kept, heading-within}
 use Rattle.heading.proofs.Arc.{arc-is-tangent}
@@ -116,3 +118,15 @@ pub arc-allowed : (r : ℤ) → (natAbs r ≡ 0 → ⊥) → between 20000 10000
 arc-allowed (pos zero) f = absurd (f refl)
 arc-allowed (pos (suc a)) f = refl
 arc-allowed (negsuc a) f = refl
+
+-- a move is no longer than its step, by coordinate
+pub move-within : (g h : Vec2) (s : ℕ) → Movable g h (pos s) → Within s (moveOf g h (pos s) .x) × Within s (moveOf g h (pos s) .y)
+move-within g h s t =
+    let a = heading-within g (t .old) in
+    let b = heading-within h (t .new) in
+    let p : Within s (pos s) = record { size = NatL.le-refl s } in
+    let x = within-mul (within-add (a .0) (b .0)) p in
+    let y = within-mul (within-add (a .1) (b .1)) p in (
+      nearest-bounded ((g .x +ℤ h .x) *ℤ pos s) (pos 2000000) s (pos-≤ (lit≤ tt)) (≥-size x) (≤-size x),
+      nearest-bounded ((g .y +ℤ h .y) *ℤ pos s) (pos 2000000) s (pos-≤ (lit≤ tt)) (≥-size y) (≤-size y),
+    )

@@ -1,5 +1,6 @@
 pub mod Lengths
 pub mod Stores
+pub mod Pairs
 pub mod SettleSizes
 pub mod Rounded
 pub mod Settled

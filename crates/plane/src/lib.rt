@@ -3,7 +3,7 @@ ghost use mathlib.Core.Path.{_≡_};
 ghost use lib.IntN.{pos};
 ghost use lib.ListN.{length, getD, set};
 ghost use Rattle.exact.specs.Nearest.{Divisor};
-ghost use Rattle.plane.specs.Vector.{dot as dotZ, rightNormal, nearestV, Moderate, BothModerate};
+ghost use Rattle.plane.specs.Vector.{dot as dotZ, plus as plusZ, minus as minusZ, rightNormal, nearestV, Moderate, BothModerate};
 ghost use Rattle.plane.specs.Length.{hasLength, Nominal};
 ghost use Rattle.plane.specs.Settle.{settleZ, Settleable};
 ghost use Rattle.plane.specs.Drawn.{drawn, Drawable, DrawnRule};
@@ -23,6 +23,34 @@ pub fn dot(a: Vec2, b: Vec2) -> i64
     let bx = b.x;
     let by = b.y;
     ax * bx + ay * by
+}
+
+pub fn plus(a: Vec2, b: Vec2) -> Vec2
+    requires { ⌜ BothModerate a b ⌝ }
+    ensures { λ r. ⌜ r ≡ plusZ a b ⌝ }
+{
+    let ax = a.x;
+    let ay = a.y;
+    let bx = b.x;
+    let by = b.y;
+    Vec2 {
+        x: ax + bx,
+        y: ay + by,
+    }
+}
+
+pub fn minus(a: Vec2, b: Vec2) -> Vec2
+    requires { ⌜ BothModerate a b ⌝ }
+    ensures { λ r. ⌜ r ≡ minusZ a b ⌝ }
+{
+    let ax = a.x;
+    let ay = a.y;
+    let bx = b.x;
+    let by = b.y;
+    Vec2 {
+        x: ax - bx,
+        y: ay - by,
+    }
 }
 
 pub fn right_normal(v: Vec2) -> Vec2

@@ -1,0 +1,4 @@
+pub mod Cuts
+pub mod Stations
+pub mod Cursor
+pub mod Laying
