@@ -1,0 +1,50 @@
+-- Turning one unit (01, "Drawing the units"). A unit is its vector d from rear axle to front point; L is its wheelbase, f the move of its front point.
+use mathlib.Core.Bool.{Bool, _&&_, not, cond}
+use Prim.Native.Nat.{ℕ}
+use lib.Dec.{leb}
+use lib.IntN.{ℤ, pos, _*ℤ_}
+use lib.Signed.{_≤ℤ_, ltZ}
+use Rattle.plane.specs.declared.Vec2.{Vec2}
+use Rattle.plane.specs.Vector.{dot, normSq, plus, minus, times, nearestV}
+use Rattle.plane.specs.Length.{hasLength, Near}
+use Rattle.plane.specs.Drawn.{drawn}
+use Rattle.unit.specs.declared.UnitTurn.{UnitTurn}
+use Rattle.unit.specs.declared.UnitTurn.the-variants as U
+
+-- m = 2d + f
+abbrev pub mirrorLine : Vec2 → Vec2 → Vec2
+mirrorLine d f = plus (times d (pos 2)) f
+
+-- |m|² times the mirror image of d in the line along m: w = 2(m·d)m − |m|²d
+abbrev pub image : Vec2 → Vec2 → Vec2
+image m d = minus (times m (pos 2 *ℤ dot m d)) (times d (normSq m))
+
+-- the mirror image, rounded, before it is settled: e = nearest w / |m|²
+abbrev pub mirrored : Vec2 → Vec2 → Vec2
+mirrored d f = nearestV (image (mirrorLine d f) d) (normSq (mirrorLine d f))
+
+-- the drawn rule: e, then settled to L
+abbrev pub turnedBy : Vec2 → Vec2 → ℤ → Vec2
+turnedBy d f l = drawn (image (mirrorLine d f) d) (normSq (mirrorLine d f)) l
+
+-- the front point moves farther than the wheelbase
+unfoldable pub tooFar : Vec2 → ℤ → Bool
+tooFar f l = ltZ (l *ℤ l) (normSq f)
+
+-- a wheelbase is from 5,000 to 200,000
+unfoldable pub wheelbaseAllowed : ℕ → Bool
+wheelbaseAllowed l = leb 5000 l && leb l 200000
+
+-- the single unit's turn: 27 for a wheelbase out of range or |d|² off L² by more than 2L, then 22, then the turned vector
+unfoldable pub unitTurn : Vec2 → Vec2 → ℕ → UnitTurn
+unitTurn d f l =
+    cond (wheelbaseAllowed l && hasLength d (pos l))
+    (cond (tooFar f (pos l)) (U.Refused 22) (U.Turned (turnedBy d f (pos l))))
+    (U.Refused 27)
+
+-- what a turn asks
+pub record Turnable (d f : Vec2) (l : ℤ) : Type 0 where
+  pub least : pos 5000 ≤ℤ l
+  pub most : l ≤ℤ pos 200000
+  pub near : Near d l (pos 2 *ℤ l)
+  pub move : normSq f ≤ℤ (l *ℤ l)
