@@ -82,23 +82,22 @@ box-within x y k n e =
       within-of y k (n .most) (record { le = and-right (a && b) c abc }) (record { le = and-right ((a && b) && c) d t }),
     )
 
+-- a short vector lies in the box
+pub in-box : (v : Vec2) (k : ℤ) → Nominal k → normSq v ≤ℤ (k *ℤ k +ℤ pos 2 *ℤ k) → box (v .x) (v .y) k ≡ true
+in-box v k n h =
+    let k0 = le {ρ = k ∷ []} (lit 0) (var 0) (hyp (lit 5000) (var 0) (n .least) ⊞ num 5000) tt in
+    let s = coordinates (v .x) (v .y) k k0 h in
+    let a = leZ (pos 0 -ℤ k) (v .x) in
+    let b = leZ (v .x) k in
+    let c = leZ (pos 0 -ℤ k) (v .y) in
+    let d = leZ (v .y) k in
+    both ((a && b) && c) d
+    (both (a && b) c (both a b (is-true (minus-≤ (v .x) k (s .0) .le)) (is-true (s .1 .le))) (is-true (minus-≤ (v .y) k (s .2) .le)))
+    (is-true (s .3 .le))
+
 pub outside-box : (v : Vec2) (k : ℤ) → Nominal k → box (v .x) (v .y) k ≡ false → hasLength v k ≡ false
 outside-box v k n e = by (hasLength v k) refl
   where
-    k0 : pos 0 ≤ℤ k
-    k0 = le {ρ = k ∷ []} (lit 0) (var 0) (hyp (lit 5000) (var 0) (n .least) ⊞ num 5000) tt
-
-    inside : Near v k (pos 2 *ℤ k) → box (v .x) (v .y) k ≡ true
-    inside h =
-        let s = coordinates (v .x) (v .y) k k0 (h .high) in
-        let a = leZ (pos 0 -ℤ k) (v .x) in
-        let b = leZ (v .x) k in
-        let c = leZ (pos 0 -ℤ k) (v .y) in
-        let d = leZ (v .y) k in
-        both ((a && b) && c) d
-        (both (a && b) c (both a b (is-true (minus-≤ (v .x) k (s .0) .le)) (is-true (s .1 .le))) (is-true (minus-≤ (v .y) k (s .2) .le)))
-        (is-true (s .3 .le))
-
     by : (t : Bool) → hasLength v k ≡ t → t ≡ false
-    by true h = sym (inside (near-of v k h)) ∙ e
+    by true h = sym (in-box v k n (near-of v k h .high)) ∙ e
     by false h = refl

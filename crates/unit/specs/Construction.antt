@@ -24,12 +24,18 @@ pub record Centre (d f p : Vec2) (z : ℤ) : Type 0 where
 abbrev pub fromNewAxle : Vec2 → Vec2 → Vec2 → ℤ → Vec2
 fromNewAxle d f p z = plus (times (fromNewFront f p z) (normSq (mirrorLine d f))) (times (image (mirrorLine d f) d) z)
 
--- the new rear axle is as far from C as the old, and C lies on the new rear axle's line
+-- the new rear axle is as far from C as the old, C lies on the new rear axle's line, and on the same side of the unit as before (without it, the unit's reflection would pass)
 pub record TurnedAbout (d f p : Vec2) (z : ℤ) : Type 0 where
   pub radius : normSq (fromNewAxle d f p z) ≡ normSq (mirrorLine d f) *ℤ normSq (mirrorLine d f) *ℤ normSq (fromOldAxle d p z)
   pub axleLine : dot (fromNewAxle d f p z) (image (mirrorLine d f) d) ≡ pos 0
+  pub side : dot (fromNewAxle d f p z) (rightNormal (image (mirrorLine d f) d)) ≡ normSq (mirrorLine d f) *ℤ normSq (mirrorLine d f) *ℤ dot (fromOldAxle d p z) (rightNormal d)
 
--- the claim: off the line of d the image is the unit turned about C; in line with d it is d itself
+-- the front point moves along the unit's own line
+abbrev pub InLine : Vec2 → Vec2 → Type 0
+InLine d f = dot f (rightNormal d) ≡ pos 0
+
+-- the claim: off the line of d there is a centre; about any centre the image is the unit turned; in line with d the image is d itself
 pub record Construction1988 : Type 0 where
-  pub turning : (d f p : Vec2) (z : ℤ) → (dot f (rightNormal d) ≡ pos 0 → ⊥) → Centre d f p z → TurnedAbout d f p z
-  pub inLine : (d f : Vec2) → dot f (rightNormal d) ≡ pos 0 → image (mirrorLine d f) d ≡ times d (normSq (mirrorLine d f))
+  pub centre : (d f : Vec2) → (InLine d f → ⊥) → (p : Vec2) × (z : ℤ) × Centre d f p z
+  pub turning : (d f p : Vec2) (z : ℤ) → Centre d f p z → TurnedAbout d f p z
+  pub inLine : (d f : Vec2) → InLine d f → image (mirrorLine d f) d ≡ times d (normSq (mirrorLine d f))

@@ -1,0 +1,6 @@
+pub mod Equations
+pub mod Turning
+pub mod UnitSizes
+pub mod Placing
+pub mod TurningCentre
+pub mod UnitTests

@@ -1,0 +1,62 @@
+-- The turn of a unit: the mirror image is as long as the unit, so it is an exact turn, and what is drawn keeps length, line and side.
+use mathlib.Core.Path.{_≡_}
+use mathlib.Core.List.{List, [], _∷_}
+use lib.IntN.{ℤ, pos, _*ℤ_}
+use lib.Signed.{_≤ℤ_}
+use Rattle.exact.proofs.Polynomial.{_⊕_, _⊖_, _⊗_, _⊜_, lit, var, ring4}
+use Rattle.exact.proofs.Certificate.{_⊞_, _⊠_, _·_, num, sq, hyp, le}
+use Rattle.plane.specs.declared.Vec2.{Vec2}
+use Rattle.plane.specs.Vector.{normSq}
+use Rattle.plane.specs.Length.{Near, Nominal}
+use Rattle.plane.specs.Drawn.{Turned, Drawable}
+use Rattle.plane.proofs.Keeping as Keeping
+use Rattle.unit.specs.Turn.{mirrorLine, image, turnedBy, Wheelbase, Turnable, TurnRule}
+
+-- |w|² = |m|⁴|d|²
+pub image-length : (m d : Vec2) → normSq (image m d) ≡ normSq m *ℤ normSq m *ℤ normSq d
+image-length m d = ring4 (m .x) (m .y) (d .x) (d .y) (λ mx my dx dy.
+    let along = lit 2 ⊗ (mx ⊗ dx ⊕ my ⊗ dy) in
+    let mm = mx ⊗ mx ⊕ my ⊗ my in
+    let wx = mx ⊗ along ⊖ dx ⊗ mm in
+    let wy = my ⊗ along ⊖ dy ⊗ mm in
+    wx ⊗ wx ⊕ wy ⊗ wy ⊜ mm ⊗ mm ⊗ (dx ⊗ dx ⊕ dy ⊗ dy)) tt
+
+-- |m|² = 2|d + f|² + 2|d|² − |f|² is at least 1
+pub line-positive : (d f : Vec2) (l : ℤ) → Turnable d f l → pos 1 ≤ℤ normSq (mirrorLine d f)
+line-positive d f l t =
+    let ρ : List ℤ = d .x ∷ d .y ∷ f .x ∷ f .y ∷ l ∷ [] in
+    let X = var 0 in
+    let Y = var 1 in
+    let F = var 2 in
+    let G = var 3 in
+    let L = var 4 in
+    let u = hyp {ρ = ρ} (lit 5000) L (t .wheelbase .least) in
+    let long = hyp {ρ = ρ} (L ⊗ L ⊖ lit 2 ⊗ L) (X ⊗ X ⊕ Y ⊗ Y) (t .near .low) in
+    let short = hyp {ρ = ρ} (F ⊗ F ⊕ G ⊗ G) (L ⊗ L) (t .move) in
+    let mx = X ⊗ lit 2 ⊕ F in
+    let my = Y ⊗ lit 2 ⊕ G in
+    le {ρ = ρ} (lit 1) (mx ⊗ mx ⊕ my ⊗ my)
+    (2 · (sq (X ⊕ F) ⊞ sq (Y ⊕ G)) ⊞ 2 · long ⊞ short ⊞ u ⊠ u ⊞ 9996 · u ⊞ num 24979999) tt
+
+pub wheelbase-nominal : {l : ℤ} → Wheelbase l → Nominal l
+wheelbase-nominal {l} w = record { least = w .least; most = le {ρ = l ∷ []} (var 0) (lit 1000000) (hyp (var 0) (lit 200000) (w .most) ⊞ num 800000) tt }
+
+module _ (d f : Vec2) (l : ℤ) (t : Turnable d f l) where
+  abbrev m : Vec2
+  m = mirrorLine d f
+
+  -- an exact turn, so it can be drawn
+  pub turnable-turned : Turned (image m d) (normSq m) d l
+  turnable-turned =
+      record { divisor = record { positive = line-positive d f l t }; nominal = wheelbase-nominal (t .wheelbase); near = t .near; exact = image-length m d }
+
+  pub turnable-drawable : Drawable (image m d) (normSq m) l
+  turnable-drawable = Keeping.turned-drawable (image m d) (normSq m) d l turnable-turned
+
+pub rule : TurnRule
+unfolding turnedBy
+rule d f l t = Keeping.rule (image (mirrorLine d f) d) (normSq (mirrorLine d f)) d l (turnable-turned d f l t)
+
+-- a turned unit can turn again
+pub turned-near : (d f : Vec2) (l : ℤ) → Turnable d f l → Near (turnedBy d f l) l (pos 2 *ℤ l)
+turned-near d f l t = rule d f l t .length

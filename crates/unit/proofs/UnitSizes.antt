@@ -1,0 +1,116 @@
+-- The sizes of a unit's vector, of its front point's move and of its hitch: no coordinate is larger than the wheelbase.
+use mathlib.Core.List.{List, [], _∷_}
+use Prim.Native.Nat.{ℕ}
+use lib.IntN.{ℤ, pos, negℤ, _+ℤ_, _*ℤ_}
+use lib.Signed.{_≤ℤ_}
+use Rattle.exact.specs.Size.{Within}
+use Rattle.exact.specs.Nearest.{nearestZ}
+use Rattle.exact.proofs.Polynomial.{Expr, _⊕_, _⊖_, _⊗_, neg, lit, var}
+use Rattle.exact.proofs.Order.{by-contradiction}
+use Rattle.exact.proofs.Certificate.{NonNeg, _⊞_, _⊠_, _·_, num, hyp, le, never}
+use Rattle.exact.proofs.Sizes.{within, ≤-size, ≥-size}
+use Rattle.exact.proofs.NearestLaws.{nearest-low, nearest-high}
+use Rattle.plane.specs.declared.Vec2.{Vec2}
+use Rattle.plane.specs.Vector.{normSq}
+use Rattle.plane.specs.Length.{Near}
+use Rattle.plane.proofs.Lengths.{coordinates}
+use Rattle.unit.specs.Turn.{Wheelbase, Turnable, UnitSized, Mirrorable}
+use Rattle.unit.specs.Coupling.{hitchOffset, Hitched}
+use Rattle.unit.proofs.Turning.{line-positive}
+
+-- a wheelbase, and whatever is no larger
+module _ {l : ℤ} (w : Wheelbase l) where
+  pub wheelbase-positive : pos 1 ≤ℤ l
+  wheelbase-positive = le {ρ = l ∷ []} (lit 1) (var 0) (hyp (lit 5000) (var 0) (w .least) ⊞ num 4999) tt
+
+  wheelbase-nonneg : pos 0 ≤ℤ l
+  wheelbase-nonneg = le {ρ = l ∷ []} (lit 0) (var 0) (hyp (lit 5000) (var 0) (w .least) ⊞ num 5000) tt
+
+  pub within-wheelbase : {x : ℤ} → negℤ l ≤ℤ x → x ≤ℤ l → Within 200000 x
+  within-wheelbase {x} low high =
+      let ρ : List ℤ = x ∷ l ∷ [] in
+      let most = hyp {ρ = ρ} (var 1) (lit 200000) (w .most) in
+      within (le {ρ = ρ} (neg (lit 200000)) (var 0) (hyp (neg (var 1)) (var 0) low ⊞ most) tt) (le {ρ = ρ} (var 0) (lit 200000) (hyp (var 0) (var 1) high ⊞ most) tt)
+
+  pub wheelbase-sized : Within 200000 l
+  wheelbase-sized =
+      within-wheelbase
+      (le {ρ = l ∷ []} (neg (var 0)) (var 0) (2 · hyp (lit 0) (var 0) wheelbase-nonneg) tt)
+      (le {ρ = l ∷ []} (var 0) (var 0) (num 0) tt)
+
+  short-sized : (v : Vec2) → normSq v ≤ℤ (l *ℤ l +ℤ pos 2 *ℤ l) → UnitSized v
+  short-sized v h =
+      let s = coordinates (v .x) (v .y) l wheelbase-nonneg h in
+      record { x = within-wheelbase (s .0) (s .1); y = within-wheelbase (s .2) (s .3) }
+
+  -- the vector of a unit
+  pub near-sized : {d : Vec2} → Near d l (pos 2 *ℤ l) → UnitSized d
+  near-sized {d} n = short-sized d (n .high)
+
+  -- the move of its front point
+  pub move-sized : (f : Vec2) → normSq f ≤ℤ (l *ℤ l) → UnitSized f
+  move-sized f h =
+      let ρ : List ℤ = normSq f ∷ l ∷ [] in
+      short-sized f (le {ρ = ρ} (var 0) (var 1 ⊗ var 1 ⊕ lit 2 ⊗ var 1) (hyp (var 0) (var 1 ⊗ var 1) h ⊞ 2 · hyp (lit 0) (var 1) wheelbase-nonneg) tt)
+
+  -- its hitch
+  pub near-hitched : {d : Vec2} {h : ℤ} → Near d l (pos 2 *ℤ l) → negℤ l ≤ℤ h → h ≤ℤ l → Hitched d h l
+  near-hitched n low high = record { vector = near-sized n; hitch = within-wheelbase low high; wheelbase = record { positive = wheelbase-positive } }
+
+pub turnable-mirrorable : (d f : Vec2) (l : ℤ) → Turnable d f l → Mirrorable d f
+turnable-mirrorable d f l t =
+    record { vector = near-sized (t .wheelbase) (t .near); move = move-sized (t .wheelbase) f (t .move); line = line-positive d f l t }
+
+-- |h| ≤ L, so nearest h × x / L is no larger than x may be
+module _ (b : ℕ) (x h l : ℤ) (l1 : pos 1 ≤ℤ l) (low : negℤ l ≤ℤ h) (high : h ≤ℤ l) (size : Within b x) where
+  abbrev ρ : List ℤ
+  ρ = x ∷ h ∷ l ∷ pos b ∷ nearestZ (x *ℤ h) l ∷ []
+
+  abbrev X : Expr
+  X = var 0
+
+  abbrev H : Expr
+  H = var 1
+
+  abbrev L : Expr
+  L = var 2
+
+  abbrev B : Expr
+  B = var 3
+
+  abbrev Q : Expr
+  Q = var 4
+
+  positive : NonNeg ρ (L ⊖ lit 1)
+  positive = hyp (lit 1) L l1
+
+  above : NonNeg ρ (B ⊖ X)
+  above = hyp X B (≤-size size)
+
+  below : NonNeg ρ (X ⊖ neg B)
+  below = hyp (neg B) X (≥-size size)
+
+  ahead : NonNeg ρ (H ⊖ neg L)
+  ahead = hyp (neg L) H low
+
+  behind : NonNeg ρ (L ⊖ H)
+  behind = hyp H L high
+
+  pub share-within : Within b (nearestZ (x *ℤ h) l)
+  share-within =
+      within
+      (by-contradiction (λ g.
+      let G = hyp {ρ = ρ} (Q ⊕ lit 1) (neg B) g in
+      let E = hyp {ρ = ρ} (neg L) (lit 2 ⊗ (L ⊗ Q ⊖ X ⊗ H)) (nearest-low (x *ℤ h) l l1) in
+      never 0 (E ⊞ 2 · ((positive ⊞ num 1) ⊠ G) ⊞ below ⊠ ahead ⊞ above ⊠ behind ⊞ positive) tt))
+      (by-contradiction (λ g.
+      let G = hyp {ρ = ρ} (B ⊕ lit 1) Q g in
+      let E = hyp {ρ = ρ} (lit 2 ⊗ (L ⊗ Q ⊖ X ⊗ H)) L (nearest-high (x *ℤ h) l l1) in
+      never 0 (E ⊞ 2 · ((positive ⊞ num 1) ⊠ G) ⊞ above ⊠ ahead ⊞ below ⊠ behind ⊞ positive) tt))
+
+-- a hitch lies no farther from the axle, by coordinate, than the front point may
+pub hitch-sized : (d : Vec2) (h l : ℤ) → Wheelbase l → negℤ l ≤ℤ h → h ≤ℤ l → UnitSized d → UnitSized (hitchOffset d h l)
+unfolding hitchOffset
+hitch-sized d h l w low high s =
+    let l1 = wheelbase-positive w in
+    record { x = share-within 200000 (d .x) h l l1 low high (s .x); y = share-within 200000 (d .y) h l l1 low high (s .y) }

@@ -1,0 +1,76 @@
+-- The tests of a unit's turn, and the records that they decide.
+use mathlib.Core.Path.{_≡_, refl, sym, _∙_}
+use mathlib.Core.Bool.{Bool, true, false, _&&_}
+use Prim.Native.Nat.{ℕ}
+use mathlib.Core.List.{List, [], _∷_}
+use lib.Dec.{T, leb}
+use lib.IntN.{ℤ, pos, _+ℤ_, _*ℤ_}
+use lib.Signed.{_≤ℤ_, clashℤ}
+use Rattle.exact.proofs.Polynomial.{_⊕_, _⊗_, lit, var, and-left, and-right}
+use Rattle.exact.proofs.Order.{of-true, ltZ-false}
+use Rattle.exact.proofs.Certificate.{_⊞_, _·_, num, hyp, le}
+use Rattle.plane.specs.declared.Vec2.{Vec2}
+use Rattle.plane.specs.Vector.{normSq}
+use Rattle.plane.specs.Length.{hasLength}
+use Rattle.plane.proofs.Lengths.{near-of, box, in-box}
+use Rattle.unit.specs.declared.UnitTurn.{UnitTurn}
+use Rattle.unit.specs.declared.UnitTurn.the-variants as U
+use Rattle.unit.specs.Turn.{turnedBy, tooFar, wheelbaseAllowed, unitTurn, Wheelbase, Turnable}
+use Rattle.unit.proofs.Turning.{wheelbase-nominal}
+
+pub wheelbase-of : (l : ℕ) → wheelbaseAllowed l ≡ true → Wheelbase (pos l)
+unfolding wheelbaseAllowed
+wheelbase-of l e =
+    let t : T (leb 5000 l && leb l 200000) = of-true e in
+    record { least = record { le = and-left (leb 5000 l) (leb l 200000) t }; most = record { le = and-right (leb 5000 l) (leb l 200000) t } }
+
+-- a move that is not too far, both ways
+pub move-of : (f : Vec2) (l : ℤ) → tooFar f l ≡ false → normSq f ≤ℤ (l *ℤ l)
+unfolding tooFar
+move-of f l e = ltZ-false (l *ℤ l) (normSq f) e
+
+too-far-clash : (f : Vec2) (l : ℤ) → tooFar f l ≡ true → normSq f ≤ℤ (l *ℤ l) → ⊥
+unfolding tooFar
+too-far-clash f l e h = clashℤ {a = l *ℤ l} {b = normSq f} (record { lt = of-true e }) h
+
+pub of-move : (f : Vec2) (l : ℤ) → normSq f ≤ℤ (l *ℤ l) → tooFar f l ≡ false
+of-move f l h = by (tooFar f l) refl
+  where
+    by : (t : Bool) → tooFar f l ≡ t → t ≡ false
+    by true e = absurd (too-far-clash f l e h)
+    by false e = refl
+
+-- a coordinate beyond the wheelbase is too far
+pub outside-far : (f : Vec2) (l : ℤ) → Wheelbase l → box (f .x) (f .y) l ≡ false → tooFar f l ≡ true
+outside-far f l w e = by (tooFar f l) refl
+  where
+    short : normSq f ≤ℤ (l *ℤ l) → normSq f ≤ℤ (l *ℤ l +ℤ pos 2 *ℤ l)
+    short h =
+        let ρ : List ℤ = normSq f ∷ l ∷ [] in
+        le {ρ = ρ} (var 0) (var 1 ⊗ var 1 ⊕ lit 2 ⊗ var 1) (hyp (var 0) (var 1 ⊗ var 1) h ⊞ 2 · hyp (lit 5000) (var 1) (w .least) ⊞ num 10000) tt
+
+    by : (t : Bool) → tooFar f l ≡ t → t ≡ true
+    by true h = refl
+    by false h = sym e ∙ in-box f l (wheelbase-nominal w) (short (move-of f l h))
+
+-- the tests of a turn, passed
+pub turnable-of : (d f : Vec2) (l : ℤ) → Wheelbase l → hasLength d l ≡ true → tooFar f l ≡ false → Turnable d f l
+turnable-of d f l w n m = record { wheelbase = w; near = near-of d l n; move = move-of f l m }
+
+-- the answers of the entry, test by test
+module _ (d f : Vec2) (l : ℕ) where
+  pub refused-wheelbase : wheelbaseAllowed l ≡ false → unitTurn d f l ≡ U.Refused 27
+  unfolding unitTurn
+  refused-wheelbase w = rw w
+
+  pub refused-length : hasLength d (pos l) ≡ false → wheelbaseAllowed l ≡ true → unitTurn d f l ≡ U.Refused 27
+  unfolding unitTurn
+  refused-length n w = rw (w, n)
+
+  pub refused-far : tooFar f (pos l) ≡ true → wheelbaseAllowed l ≡ true → hasLength d (pos l) ≡ true → unitTurn d f l ≡ U.Refused 22
+  unfolding unitTurn
+  refused-far m w n = rw (w, n, m)
+
+  pub accepted : tooFar f (pos l) ≡ false → wheelbaseAllowed l ≡ true → hasLength d (pos l) ≡ true → unitTurn d f l ≡ U.Turned (turnedBy d f (pos l))
+  unfolding unitTurn
+  accepted m w n = rw (w, n, m)
