@@ -1,21 +1,22 @@
 -- The sizes of a unit's vector, of its front point's move and of its hitch: no coordinate is larger than the wheelbase.
 use mathlib.Core.List.{List, [], _∷_}
 use Prim.Native.Nat.{ℕ}
+use lib.Dec.{lit≤}
 use lib.IntN.{ℤ, pos, negℤ, _+ℤ_, _*ℤ_}
 use lib.Signed.{_≤ℤ_}
 use Rattle.exact.specs.Size.{Within}
 use Rattle.exact.specs.Nearest.{nearestZ}
 use Rattle.exact.proofs.Polynomial.{Expr, _⊕_, _⊖_, _⊗_, neg, lit, var}
-use Rattle.exact.proofs.Order.{by-contradiction}
+use Rattle.exact.proofs.Order.{by-contradiction, pos-≤}
 use Rattle.exact.proofs.Certificate.{NonNeg, _⊞_, _⊠_, _·_, num, hyp, le, never}
-use Rattle.exact.proofs.Sizes.{within, ≤-size, ≥-size}
+use Rattle.exact.proofs.Sizes.{within, within-more, ≤-size, ≥-size}
 use Rattle.exact.proofs.NearestLaws.{nearest-low, nearest-high}
 use Rattle.plane.specs.declared.Vec2.{Vec2}
 use Rattle.plane.specs.Vector.{normSq}
 use Rattle.plane.specs.Length.{Near}
 use Rattle.plane.proofs.Lengths.{coordinates}
-use Rattle.unit.specs.Turn.{Wheelbase, Turnable, UnitSized, Mirrorable}
-use Rattle.unit.specs.Coupling.{hitchOffset, Hitched}
+use Rattle.unit.specs.Turn.{headingLength, Wheelbase, Placeable, Turnable, UnitSized, Mirrorable}
+use Rattle.unit.specs.Coupling.{hitchOffset, Hitched, Scalable}
 use Rattle.unit.proofs.Turning.{line-positive}
 
 -- a wheelbase, and whatever is no larger
@@ -48,10 +49,13 @@ module _ {l : ℤ} (w : Wheelbase l) where
   near-sized {d} n = short-sized d (n .high)
 
   -- the move of its front point
-  pub move-sized : (f : Vec2) → normSq f ≤ℤ (l *ℤ l) → UnitSized f
-  move-sized f h =
+  pub move-short : (f : Vec2) → normSq f ≤ℤ (l *ℤ l) → normSq f ≤ℤ (l *ℤ l +ℤ pos 2 *ℤ l)
+  move-short f h =
       let ρ : List ℤ = normSq f ∷ l ∷ [] in
-      short-sized f (le {ρ = ρ} (var 0) (var 1 ⊗ var 1 ⊕ lit 2 ⊗ var 1) (hyp (var 0) (var 1 ⊗ var 1) h ⊞ 2 · hyp (lit 0) (var 1) wheelbase-nonneg) tt)
+      le {ρ = ρ} (var 0) (var 1 ⊗ var 1 ⊕ lit 2 ⊗ var 1) (hyp (var 0) (var 1 ⊗ var 1) h ⊞ 2 · hyp (lit 0) (var 1) wheelbase-nonneg) tt
+
+  pub move-sized : (f : Vec2) → normSq f ≤ℤ (l *ℤ l) → UnitSized f
+  move-sized f h = short-sized f (move-short f h)
 
   -- its hitch
   pub near-hitched : {d : Vec2} {h : ℤ} → Near d l (pos 2 *ℤ l) → negℤ l ≤ℤ h → h ≤ℤ l → Hitched d h l
@@ -114,3 +118,13 @@ unfolding hitchOffset
 hitch-sized d h l w low high s =
     let l1 = wheelbase-positive w in
     record { x = share-within 200000 (d .x) h l l1 low high (s .x); y = share-within 200000 (d .y) h l l1 low high (s .y) }
+
+-- what the multiples of vectors ask
+pub hitched-scalable : {d : Vec2} {h l : ℤ} → Hitched d h l → Scalable d h l
+hitched-scalable p =
+    record { x = within-more (lit≤ tt) (p .vector .x); y = within-more (lit≤ tt) (p .vector .y); factor = p .hitch; divisor = p .wheelbase }
+
+pub placeable-scalable : {g : Vec2} {l : ℤ} → Placeable g l → Scalable g l headingLength
+placeable-scalable {g} {l} p =
+    let s = coordinates (g .x) (g .y) headingLength (pos-≤ (lit≤ tt)) (p .heading .high) in
+    record { x = within (s .0) (s .1); y = within (s .2) (s .3); factor = wheelbase-sized (p .wheelbase); divisor = record { positive = pos-≤ (lit≤ tt) } }

@@ -2,13 +2,11 @@
 use mathlib.Core.Path.{_≡_, refl, sym, _∙_}
 use mathlib.Core.Bool.{Bool, true, false, _&&_}
 use Prim.Native.Nat.{ℕ}
-use mathlib.Core.List.{List, [], _∷_}
 use lib.Dec.{T, leb}
-use lib.IntN.{ℤ, pos, _+ℤ_, _*ℤ_}
+use lib.IntN.{ℤ, pos, _*ℤ_}
 use lib.Signed.{_≤ℤ_, clashℤ}
-use Rattle.exact.proofs.Polynomial.{_⊕_, _⊗_, lit, var, and-left, and-right}
+use Rattle.exact.proofs.Polynomial.{and-left, and-right}
 use Rattle.exact.proofs.Order.{of-true, ltZ-false}
-use Rattle.exact.proofs.Certificate.{_⊞_, _·_, num, hyp, le}
 use Rattle.plane.specs.declared.Vec2.{Vec2}
 use Rattle.plane.specs.Vector.{normSq}
 use Rattle.plane.specs.Length.{hasLength}
@@ -17,6 +15,7 @@ use Rattle.unit.specs.declared.UnitTurn.{UnitTurn}
 use Rattle.unit.specs.declared.UnitTurn.the-variants as U
 use Rattle.unit.specs.Turn.{turnedBy, tooFar, wheelbaseAllowed, unitTurn, Wheelbase, Turnable}
 use Rattle.unit.proofs.Turning.{wheelbase-nominal}
+use Rattle.unit.proofs.UnitSizes.{move-short}
 
 pub wheelbase-of : (l : ℕ) → wheelbaseAllowed l ≡ true → Wheelbase (pos l)
 unfolding wheelbaseAllowed
@@ -44,14 +43,9 @@ of-move f l h = by (tooFar f l) refl
 pub outside-far : (f : Vec2) (l : ℤ) → Wheelbase l → box (f .x) (f .y) l ≡ false → tooFar f l ≡ true
 outside-far f l w e = by (tooFar f l) refl
   where
-    short : normSq f ≤ℤ (l *ℤ l) → normSq f ≤ℤ (l *ℤ l +ℤ pos 2 *ℤ l)
-    short h =
-        let ρ : List ℤ = normSq f ∷ l ∷ [] in
-        le {ρ = ρ} (var 0) (var 1 ⊗ var 1 ⊕ lit 2 ⊗ var 1) (hyp (var 0) (var 1 ⊗ var 1) h ⊞ 2 · hyp (lit 5000) (var 1) (w .least) ⊞ num 10000) tt
-
     by : (t : Bool) → tooFar f l ≡ t → t ≡ true
     by true h = refl
-    by false h = sym e ∙ in-box f l (wheelbase-nominal w) (short (move-of f l h))
+    by false h = sym e ∙ in-box f l (wheelbase-nominal w) (move-short w f (move-of f l h))
 
 -- the tests of a turn, passed
 pub turnable-of : (d f : Vec2) (l : ℤ) → Wheelbase l → hasLength d l ≡ true → tooFar f l ≡ false → Turnable d f l

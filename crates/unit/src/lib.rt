@@ -83,20 +83,20 @@ fn wheelbase_allowed(wheelbase: u32) -> bool
 pub fn turn_unit(d: Vec2, f: Vec2, wheelbase: u32) -> UnitTurn
     ensures { λ r. ⌜ r ≡ unitTurn d f wheelbase ⌝ }
 {
-    if !wheelbase_allowed(wheelbase) {
-        return UnitTurn::Refused(27);
+    if wheelbase_allowed(wheelbase) {
+        let l = wheelbase as i64;
+        let sound = plane::has_length(d, l);
+        let far = moves_too_far(f, l);
+        if !sound {
+            return UnitTurn::Refused(27);
+        }
+        if far {
+            return UnitTurn::Refused(22);
+        }
+        let v = turned(d, f, l);
+        return UnitTurn::Turned(v);
     }
-    let l = wheelbase as i64;
-    let sound = plane::has_length(d, l);
-    let far = moves_too_far(f, l);
-    if !sound {
-        return UnitTurn::Refused(27);
-    }
-    if far {
-        return UnitTurn::Refused(22);
-    }
-    let v = turned(d, f, l);
-    UnitTurn::Turned(v)
+    UnitTurn::Refused(27)
 }
 
 // Claim: a placed vector has the length of its unit.

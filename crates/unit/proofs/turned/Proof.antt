@@ -1,21 +1,28 @@
+-- `unit::turned` meets its contract: the mirror image can be settled.
+use mathlib.Core.Path.{_≡_, sym, subst₂}
+use borrow.Author.Needs.{needs}
+use Rattle.exact.proofs.Machine.{reread}
+use Rattle.plane.specs.Settle.{Settleable}
+use Rattle.unit.specs.Turn.{turnedBy}
+use Rattle.unit.proofs.Turning.{turnable-drawable}
+use Rattle.unit.proofs.UnitSizes.{turnable-mirrorable}
 use Rattle.unit.proofs.turned.Statement.{statement}
 use Rattle.unit.proofs.turned.Tie as tie
-use Rattle.unit.proofs.turned.Reads as reads
-use Rattle.unit.proofs.turned.Lts as lts
-use Rattle.plane.proofs.settle.Reads as settle-reads
-use Rattle.unit.proofs.mirror.mirrored_vector.Reads as mirrored-vector-reads
 
--- src/lib.rt:72:9
+exact-l : (c : tie.Start) → reread (c .args .l) ≡ c .args .l
+exact-l c = search needs
+
 mirrored-vector-requires : tie.Need-mirrored-vector-requires
-mirrored-vector-requires c κs = ?
+mirrored-vector-requires c κs = turnable-mirrorable (c .args .d) (c .args .f) (c .args .l) (c .pre)
 
--- src/lib.rt:73:5
 settle-requires : tie.Need-settle-requires
-settle-requires c κs = ?
+settle-requires c κs =
+    let s = c .before in
+    subst₂ Settleable (sym (c .mirrored-vector .ensures)) (sym (exact-l s)) (turnable-drawable (s .args .d) (s .args .f) (s .args .l) (s .pre) .rounded)
 
--- src/lib.rt:68:1
 returns : tie.Need-returns
-returns c = ?
+unfolding turnedBy
+returns c = cc (exact-l (c .before .before))
 
 pub turned-spec : {M : Type 1} → statement M
 turned-spec = tie.close (tie.spec mirrored-vector-requires settle-requires returns)

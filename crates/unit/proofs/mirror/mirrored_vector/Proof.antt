@@ -1,84 +1,102 @@
+-- `unit::mirror::mirrored_vector` meets its contract: by the sizes of d and f nothing overflows.
+use mathlib.Core.Path.{_≡_, _∙_, ap₂}
+use mathlib.Core.List.{List, [], _∷_}
+use Rattle.exact.specs.Nearest.{Divisor}
+use Rattle.exact.proofs.Polynomial.{Expr, var, lit, _⊕_, _⊖_, _⊗_}
+use Rattle.exact.proofs.Machine.{Bounded, none, _∷ᵇ_, fits, held, via}
+use Rattle.plane.specs.Vector.{nearestV}
 use Rattle.unit.proofs.mirror.mirrored_vector.Statement.{statement}
 use Rattle.unit.proofs.mirror.mirrored_vector.Tie as tie
-use Rattle.unit.proofs.mirror.mirrored_vector.Reads as reads
-use Rattle.unit.proofs.mirror.mirrored_vector.Lts as lts
-use Rattle.plane.proofs.nearest_vector.Reads as nearest-vector-reads
 
--- src/mirror.rt:15:14
+abbrev X : Expr
+X = var 0
+
+abbrev Y : Expr
+Y = var 1
+
+abbrev MX : Expr
+MX = X ⊗ lit 2 ⊕ var 2
+
+abbrev MY : Expr
+MY = Y ⊗ lit 2 ⊕ var 3
+
+abbrev ALONG : Expr
+ALONG = lit 2 ⊗ (MX ⊗ X ⊕ MY ⊗ Y)
+
+abbrev MM : Expr
+MM = MX ⊗ MX ⊕ MY ⊗ MY
+
+abbrev WX : Expr
+WX = MX ⊗ ALONG ⊖ X ⊗ MM
+
+abbrev WY : Expr
+WY = MY ⊗ ALONG ⊖ Y ⊗ MM
+
+-- the sizes of d and f, where all four coordinates are read
+S : (c : tie.After-struct-told4) → let s = c .before .before .before .before in
+    Bounded (200000 ∷ 200000 ∷ 200000 ∷ 200000 ∷ []) (s .args .d .x ∷ s .args .d .y ∷ s .args .f .x ∷ s .args .f .y ∷ [])
+S c = let p = c .before .before .before .before .pre in p .vector .x ∷ᵇ p .vector .y ∷ᵇ p .move .x ∷ᵇ p .move .y ∷ᵇ none
+
 mul-mx : tie.Need-mul-mx
-mul-mx c = ?
+mul-mx c = fits (S c) (X ⊗ lit 2) tt
 
--- src/mirror.rt:15:14
 add-mx : tie.Need-add-mx
-add-mx c = ?
+add-mx c = fits (S c) (MX) tt
 
--- src/mirror.rt:16:14
 mul-my : tie.Need-mul-my
-mul-my c = ?
+mul-my c = fits (S c) (Y ⊗ lit 2) tt
 
--- src/mirror.rt:16:14
 add-my : tie.Need-add-my
-add-my c = ?
+add-my c = fits (S c) (MY) tt
 
--- src/mirror.rt:17:22
 mul-along : tie.Need-mul-along
-mul-along c = ?
+mul-along c = fits (S c) (MX ⊗ X) tt
 
--- src/mirror.rt:17:32
 mul-along-2 : tie.Need-mul-along-2
-mul-along-2 c = ?
+mul-along-2 c = fits (S c) (MY ⊗ Y) tt
 
--- src/mirror.rt:17:22
 add-along : tie.Need-add-along
-add-along c = ?
+add-along c = fits (S c) (MX ⊗ X ⊕ MY ⊗ Y) tt
 
--- src/mirror.rt:17:17
 mul-along-3 : tie.Need-mul-along-3
-mul-along-3 c = ?
+mul-along-3 c = fits (S c) (ALONG) tt
 
--- src/mirror.rt:18:14
 mul-mm : tie.Need-mul-mm
-mul-mm c = ?
+mul-mm c = fits (S c) (MX ⊗ MX) tt
 
--- src/mirror.rt:18:24
 mul-mm-2 : tie.Need-mul-mm-2
-mul-mm-2 c = ?
+mul-mm-2 c = fits (S c) (MY ⊗ MY) tt
 
--- src/mirror.rt:18:14
 add-mm : tie.Need-add-mm
-add-mm c = ?
+add-mm c = fits (S c) (MM) tt
 
--- src/mirror.rt:19:23
 mul-t13 : tie.Need-mul-t13
-mul-t13 c = ?
+mul-t13 c = fits (S c) (MX ⊗ ALONG) tt
 
--- src/mirror.rt:19:36
 mul-t14 : tie.Need-mul-t14
-mul-t14 c = ?
+mul-t14 c = fits (S c) (X ⊗ MM) tt
 
--- src/mirror.rt:19:23
 sub-t12 : tie.Need-sub-t12
-sub-t12 c = ?
+sub-t12 c = fits (S c) (WX) tt
 
--- src/mirror.rt:19:48
 mul-t15 : tie.Need-mul-t15
-mul-t15 c = ?
+mul-t15 c = fits (S c) (MY ⊗ ALONG) tt
 
--- src/mirror.rt:19:61
 mul-t16 : tie.Need-mul-t16
-mul-t16 c = ?
+mul-t16 c = fits (S c) (Y ⊗ MM) tt
 
--- src/mirror.rt:19:48
 sub-t17 : tie.Need-sub-t17
-sub-t17 c = ?
+sub-t17 c = fits (S c) (WY) tt
 
--- src/mirror.rt:20:5
 nearest-vector-requires : tie.Need-nearest-vector-requires
-nearest-vector-requires c κs = ?
+nearest-vector-requires c κs = via (S c) Divisor MM tt (record { positive = c .before .before .before .before .pre .line })
 
--- src/mirror.rt:7:1
 returns : tie.Need-returns
-returns c = ?
+returns c =
+    let s = S (c .before) in
+    let ex = held s WX tt in
+    let ey = held s WY tt in
+    c .nearest-vector .ensures ∙ ap₂ nearestV (λ i. record { x = ex i; y = ey i }) (held s MM tt)
 
 pub mirrored-vector-spec : {M : Type 1} → statement M
 mirrored-vector-spec =
