@@ -4,3 +4,5 @@ pub mod UnitSizes
 pub mod Placing
 pub mod TurningCentre
 pub mod UnitTests
+pub mod Witnesses
+pub mod Rows
