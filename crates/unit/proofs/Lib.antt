@@ -1,6 +1,7 @@
 pub mod Equations
 pub mod Turning
 pub mod UnitSizes
+pub mod Hitching
 pub mod Placing
 pub mod TurningCentre
 pub mod UnitTests

@@ -1,7 +1,7 @@
 -- The construction of 1988, by polynomial identities: from the two equations of the centre, that the mirror image is the unit turned about it.
 use mathlib.Core.Path.{_≡_, sym, _∙_, ap, ap₂}
 use mathlib.Core.List.{List, [], _∷_}
-use Prim.Native.Nat.{ℕ, zero, suc}
+use Prim.Native.Nat.{zero, suc}
 use native.Mathlib.Omega.{arith}
 use lib.Dec.{lit≤}
 use lib.IntN.{ℤ, pos, negsuc, _+ℤ_, _*ℤ_}
@@ -12,7 +12,7 @@ use Rattle.exact.proofs.Certificate.{eqn, le-scaled, positive-mul}
 use Rattle.plane.specs.declared.Vec2.{Vec2}
 use Rattle.plane.specs.Vector.{dot, normSq, plus, times, rightNormal}
 use Rattle.unit.specs.Turn.{mirrorLine, image}
-use Rattle.unit.specs.Construction.{fromOldAxle, fromNewFront, fromNewAxle, Centre, TurnedAbout, InLine, Construction1988}
+use Rattle.unit.specs.Construction.{fromOldAxle, fromNewFront, Centre, TurnedAbout, InLine, Construction1988}
 use Rattle.unit.proofs.Equations.{Zero, _⊹_, multiple, equal}
 use Rattle.unit.proofs.Turning.{image-length}
 

@@ -11,7 +11,6 @@ use Rattle.plane.specs.declared.Vec2.{Vec2}
 use Rattle.plane.specs.Vector.{normSq}
 use Rattle.plane.specs.Length.{hasLength}
 use Rattle.plane.proofs.Lengths.{near-of, box, in-box}
-use Rattle.unit.specs.declared.UnitTurn.{UnitTurn}
 use Rattle.unit.specs.declared.UnitTurn.the-variants as U
 use Rattle.unit.specs.Turn.{turnedBy, tooFar, wheelbaseAllowed, unitTurn, Wheelbase, Turnable}
 use Rattle.unit.proofs.Turning.{wheelbase-nominal}

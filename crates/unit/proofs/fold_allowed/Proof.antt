@@ -1,6 +1,6 @@
 -- `unit::fold_allowed` meets its contract: by the sizes of the vectors, the limit and the wheelbases nothing overflows.
-use mathlib.Core.Path.{_≡_, sym, _∙_, ap, ap₂, subst}
-use mathlib.Core.List.{List, [], _∷_}
+use mathlib.Core.Path.{sym, _∙_, ap, ap₂, subst}
+use mathlib.Core.List.{[], _∷_}
 use borrow.Author.Needs.{needs}
 use lib.IntN.{ℤ, pos, _*ℤ_}
 use lib.Signed.{leZ}

@@ -1,6 +1,6 @@
 -- `unit::moves_too_far` meets its contract: inside the box nothing overflows, and outside it every move is too far.
 use mathlib.Core.Path.{_≡_, sym, ap₂}
-use mathlib.Core.List.{List, [], _∷_}
+use mathlib.Core.List.{[], _∷_}
 use borrow.Author.Needs.{needs}
 use lib.IntN.{pos, _-ℤ_}
 use lib.Signed.{ltZ}

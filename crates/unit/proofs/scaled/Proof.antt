@@ -1,6 +1,6 @@
 -- `unit::scaled` meets its contract: by the sizes of v and n nothing overflows.
 use mathlib.Core.Path.{_≡_, _∙_, ap₂}
-use mathlib.Core.List.{List, [], _∷_}
+use mathlib.Core.List.{[], _∷_}
 use borrow.Author.Needs.{needs}
 use Rattle.exact.proofs.Polynomial.{var, _⊗_}
 use Rattle.exact.proofs.Machine.{Bounded, none, _∷ᵇ_, reread, fits, held}

@@ -1,11 +1,9 @@
 -- `unit::turn_unit` meets its contract: each way out is one of the answers of `unitTurn`, by the tests that led there.
 use mathlib.Core.Path.{_≡_, sym, _∙_, ap, subst}
-use mathlib.Core.Bool.{true, false}
-use Prim.Native.Nat.{ℕ, _^_, _<_}
-use native.Mathlib.Omega.{arith}
+use mathlib.Core.Bool.{true}
 use borrow.Author.Needs.{needs}
 use borrow.Author.Tests.{not-true, not-false}
-use lib.IntN.{ℤ, pos}
+use lib.IntN.{pos}
 use mir.Syntax.{w64}
 use mir.Val.{toZ}
 use mir.Facts.{toZ-pos}

@@ -1,6 +1,6 @@
 -- `unit::mirror::mirrored_vector` meets its contract: by the sizes of d and f nothing overflows.
-use mathlib.Core.Path.{_≡_, _∙_, ap₂}
-use mathlib.Core.List.{List, [], _∷_}
+use mathlib.Core.Path.{_∙_, ap₂}
+use mathlib.Core.List.{[], _∷_}
 use Rattle.exact.specs.Nearest.{Divisor}
 use Rattle.exact.proofs.Polynomial.{Expr, var, lit, _⊕_, _⊖_, _⊗_}
 use Rattle.exact.proofs.Machine.{Bounded, none, _∷ᵇ_, fits, held, via}
