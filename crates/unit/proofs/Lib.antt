@@ -1,9 +1,10 @@
 pub mod Equations
+pub mod MirrorImage
+pub mod TurningCentre
 pub mod Turning
 pub mod UnitSizes
 pub mod Hitching
 pub mod Placing
-pub mod TurningCentre
 pub mod UnitTests
 pub mod Witnesses
 pub mod Rows

@@ -1,9 +1,8 @@
 -- The turn of a unit: the mirror image is as long as the unit, so it is an exact turn, and what is drawn keeps length, line and side.
-use mathlib.Core.Path.{_≡_}
 use mathlib.Core.List.{List, [], _∷_}
 use lib.IntN.{ℤ, pos, _*ℤ_}
 use lib.Signed.{_≤ℤ_}
-use Rattle.exact.proofs.Polynomial.{_⊕_, _⊖_, _⊗_, _⊜_, lit, var, ring4}
+use Rattle.exact.proofs.Polynomial.{_⊕_, _⊖_, _⊗_, lit, var}
 use Rattle.exact.proofs.Certificate.{_⊞_, _⊠_, _·_, num, sq, hyp, le}
 use Rattle.plane.specs.declared.Vec2.{Vec2}
 use Rattle.plane.specs.Vector.{normSq}
@@ -11,15 +10,7 @@ use Rattle.plane.specs.Length.{Near, Nominal}
 use Rattle.plane.specs.Drawn.{Turned, Drawable}
 use Rattle.plane.proofs.Keeping as Keeping
 use Rattle.unit.specs.Turn.{mirrorLine, image, turnedBy, Wheelbase, Turnable, TurnRule}
-
--- |w|² = |m|⁴|d|²
-pub image-length : (m d : Vec2) → normSq (image m d) ≡ normSq m *ℤ normSq m *ℤ normSq d
-image-length m d = ring4 (m .x) (m .y) (d .x) (d .y) (λ mx my dx dy.
-    let along = lit 2 ⊗ (mx ⊗ dx ⊕ my ⊗ dy) in
-    let mm = mx ⊗ mx ⊕ my ⊗ my in
-    let wx = mx ⊗ along ⊖ dx ⊗ mm in
-    let wy = my ⊗ along ⊖ dy ⊗ mm in
-    wx ⊗ wx ⊕ wy ⊗ wy ⊜ mm ⊗ mm ⊗ (dx ⊗ dx ⊕ dy ⊗ dy)) tt
+use Rattle.unit.proofs.MirrorImage.{image-length}
 
 -- |m|² = 2|d + f|² + 2|d|² − |f|² is at least 1
 pub line-positive : (d f : Vec2) (l : ℤ) → Turnable d f l → pos 1 ≤ℤ normSq (mirrorLine d f)

@@ -1,22 +1,19 @@
--- The sizes of a unit's vector, of its front point's move and of its hitch: no coordinate is larger than the wheelbase.
+-- The sizes of a unit's vector and of its front point's move: no coordinate is larger than the wheelbase. What the functions ask follows.
 use mathlib.Core.List.{List, [], _∷_}
-use Prim.Native.Nat.{ℕ}
 use lib.Dec.{lit≤}
 use lib.IntN.{ℤ, pos, negℤ, _+ℤ_, _*ℤ_}
-use lib.Signed.{_≤ℤ_}
+use lib.Signed.{_≤ℤ_, ≤ℤ-refl}
 use Rattle.exact.specs.Size.{Within}
-use Rattle.exact.specs.Nearest.{nearestZ}
-use Rattle.exact.proofs.Polynomial.{Expr, _⊕_, _⊖_, _⊗_, neg, lit, var}
-use Rattle.exact.proofs.Order.{by-contradiction, pos-≤}
-use Rattle.exact.proofs.Certificate.{NonNeg, _⊞_, _⊠_, _·_, num, hyp, le, never}
-use Rattle.exact.proofs.Sizes.{within, within-more, ≤-size, ≥-size}
-use Rattle.exact.proofs.NearestLaws.{nearest-low, nearest-high}
+use Rattle.exact.proofs.Polynomial.{_⊕_, _⊗_, neg, lit, var}
+use Rattle.exact.proofs.Order.{pos-≤}
+use Rattle.exact.proofs.Certificate.{_⊞_, _·_, num, hyp, le}
+use Rattle.exact.proofs.Sizes.{within, within-more}
 use Rattle.plane.specs.declared.Vec2.{Vec2}
 use Rattle.plane.specs.Vector.{normSq}
 use Rattle.plane.specs.Length.{Near}
 use Rattle.plane.proofs.Lengths.{coordinates}
 use Rattle.unit.specs.Turn.{headingLength, Wheelbase, Placeable, Turnable, UnitSized, Mirrorable}
-use Rattle.unit.specs.Coupling.{hitchOffset, Hitched, Scalable}
+use Rattle.unit.specs.Coupling.{Hitched, Coupled, Scalable}
 use Rattle.unit.proofs.Turning.{line-positive}
 
 -- a wheelbase, and whatever is no larger
@@ -37,7 +34,7 @@ module _ {l : ℤ} (w : Wheelbase l) where
   wheelbase-sized =
       within-wheelbase
       (le {ρ = l ∷ []} (neg (var 0)) (var 0) (2 · hyp (lit 0) (var 0) wheelbase-nonneg) tt)
-      (le {ρ = l ∷ []} (var 0) (var 0) (num 0) tt)
+      (≤ℤ-refl l)
 
   short-sized : (v : Vec2) → normSq v ≤ℤ (l *ℤ l +ℤ pos 2 *ℤ l) → UnitSized v
   short-sized v h =
@@ -45,6 +42,9 @@ module _ {l : ℤ} (w : Wheelbase l) where
       record { x = within-wheelbase (s .0) (s .1); y = within-wheelbase (s .2) (s .3) }
 
   -- the vector of a unit
+  pub near-coordinates : {d : Vec2} → Near d l (pos 2 *ℤ l) → (negℤ l ≤ℤ d .x) × (d .x ≤ℤ l) × (negℤ l ≤ℤ d .y) × (d .y ≤ℤ l)
+  near-coordinates {d} n = coordinates (d .x) (d .y) l wheelbase-nonneg (n .high)
+
   pub near-sized : {d : Vec2} → Near d l (pos 2 *ℤ l) → UnitSized d
   near-sized {d} n = short-sized d (n .high)
 
@@ -60,6 +60,11 @@ module _ {l : ℤ} (w : Wheelbase l) where
   -- its hitch
   pub near-hitched : {d : Vec2} {h : ℤ} → Near d l (pos 2 *ℤ l) → negℤ l ≤ℤ h → h ≤ℤ l → Hitched d h l
   near-hitched n low high = record { vector = near-sized n; hitch = within-wheelbase low high; wheelbase = record { positive = wheelbase-positive } }
+
+-- two units that are coupled
+pub near-coupled : {a d : Vec2} {limit la ld : ℤ} → Wheelbase la → Wheelbase ld → Near a la (pos 2 *ℤ la) → Near d ld (pos 2 *ℤ ld) → Within 1000 limit → Coupled a d limit la ld
+near-coupled wa wd na nd s =
+    record { ahead = near-sized wa na; behind = near-sized wd nd; foldLimit = s; wheelbaseAhead = wheelbase-sized wa; wheelbaseBehind = wheelbase-sized wd }
 
 pub turnable-mirrorable : (d f : Vec2) (l : ℤ) → Turnable d f l → Mirrorable d f
 turnable-mirrorable d f l t =
