@@ -1,6 +1,6 @@
 pub mod Equations
 pub mod MirrorImage
-pub mod TurningCentre
+pub mod Centre
 pub mod Turning
 pub mod UnitSizes
 pub mod Hitching

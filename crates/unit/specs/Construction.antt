@@ -24,7 +24,8 @@ pub record Centre (d f p : Vec2) (z : ℤ) : Type 0 where
 abbrev pub fromNewAxle : Vec2 → Vec2 → Vec2 → ℤ → Vec2
 fromNewAxle d f p z = plus (times (fromNewFront f p z) (normSq (mirrorLine d f))) (times (image (mirrorLine d f) d) z)
 
--- the new rear axle is as far from C as the old, C lies on the new rear axle's line, and on the same side of the unit as before (without it, the unit's reflection would pass)
+-- the new rear axle is as far from C as the old, C lies on the new rear axle's line, and on the same side of the unit as before:
+-- a unit turned over in the line from C to the new front point keeps the first two
 pub record TurnedAbout (d f p : Vec2) (z : ℤ) : Type 0 where
   pub radius : normSq (fromNewAxle d f p z) ≡ normSq (mirrorLine d f) *ℤ normSq (mirrorLine d f) *ℤ normSq (fromOldAxle d p z)
   pub axleLine : dot (fromNewAxle d f p z) (image (mirrorLine d f) d) ≡ pos 0

@@ -1,5 +1,5 @@
 -- `unit::construction_1988` meets its contract.
-use Rattle.unit.proofs.TurningCentre.{rule}
+use Rattle.unit.proofs.Centre.{rule}
 use Rattle.unit.proofs.construction_1988.Statement.{statement}
 use Rattle.unit.proofs.construction_1988.Tie as tie
 
