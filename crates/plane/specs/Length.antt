@@ -5,6 +5,10 @@ use lib.Signed.{_≤ℤ_, leZ}
 use Rattle.plane.specs.declared.Vec2.{Vec2}
 use Rattle.plane.specs.Vector.{normSq}
 
+-- N, the nominal length of a heading
+abbrev pub headingLength : ℤ
+headingLength = pos 1000000
+
 -- |v|² differs from K² by at most 2K
 unfoldable pub hasLength : Vec2 → ℤ → Bool
 hasLength v k = leZ (k *ℤ k -ℤ pos 2 *ℤ k) (normSq v) && leZ (normSq v) (k *ℤ k +ℤ pos 2 *ℤ k)

@@ -8,9 +8,10 @@ use Rattle.exact.proofs.Polynomial.{Expr, _⊕_, _⊖_, _⊗_, neg, lit, var}
 use Rattle.exact.proofs.Order.{pos-≤}
 use Rattle.exact.proofs.Certificate.{NonNeg, _⊞_, _⊠_, _·_, num, sq, hyp, eqn, le-scaled, named}
 use Rattle.exact.proofs.NearestLaws.{nearest-low, nearest-high}
+use Rattle.plane.specs.Length.{headingLength}
 use Rattle.plane.specs.Vector.{normSq}
 use Rattle.plane.proofs.Rounded.{error, expanded}
-use Rattle.unit.specs.Turn.{headingLength, placedBy, Wheelbase, PlacedRule}
+use Rattle.unit.specs.Turn.{placedBy, Wheelbase, PlacedRule}
 
 -- the estimate, with g = (x, y), the errors a, b and n = |placed|² as unknowns
 module _ (l x y a b n : ℤ) (w : Wheelbase l)

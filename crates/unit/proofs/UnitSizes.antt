@@ -10,9 +10,9 @@ use Rattle.exact.proofs.Certificate.{_⊞_, _·_, num, hyp, le}
 use Rattle.exact.proofs.Sizes.{within, within-more}
 use Rattle.plane.specs.declared.Vec2.{Vec2}
 use Rattle.plane.specs.Vector.{normSq}
-use Rattle.plane.specs.Length.{Near}
+use Rattle.plane.specs.Length.{headingLength, Near}
 use Rattle.plane.proofs.Lengths.{coordinates}
-use Rattle.unit.specs.Turn.{headingLength, Wheelbase, Placeable, Turnable, UnitSized, Mirrorable}
+use Rattle.unit.specs.Turn.{Wheelbase, Placeable, Turnable, UnitSized, Mirrorable}
 use Rattle.unit.specs.Coupling.{Hitched, Coupled, Scalable}
 use Rattle.unit.proofs.Turning.{line-positive}
 

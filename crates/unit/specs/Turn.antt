@@ -7,15 +7,11 @@ use lib.Signed.{_≤ℤ_, ltZ}
 use Rattle.exact.specs.Size.{Within}
 use Rattle.plane.specs.declared.Vec2.{Vec2}
 use Rattle.plane.specs.Vector.{dot, normSq, plus, minus, times, nearestV}
-use Rattle.plane.specs.Length.{hasLength, Near}
+use Rattle.plane.specs.Length.{headingLength, hasLength, Near}
 use Rattle.plane.specs.Settle.{settleZ}
 use Rattle.plane.specs.Drawn.{Kept}
 use Rattle.unit.specs.declared.UnitTurn.{UnitTurn}
 use Rattle.unit.specs.declared.UnitTurn.the-variants as U
-
--- N, the nominal length of a heading
-abbrev pub headingLength : ℤ
-headingLength = pos 1000000
 
 -- at the start: nearest L × g / N, for the heading g
 unfoldable pub placedBy : Vec2 → ℤ → Vec2

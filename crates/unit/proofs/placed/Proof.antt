@@ -3,8 +3,9 @@ use mathlib.Core.Path.{_≡_, sym, _∙_, ap, subst}
 use borrow.Author.Needs.{needs}
 use lib.IntN.{ℤ}
 use Rattle.exact.proofs.Machine.{reread}
+use Rattle.plane.specs.Length.{headingLength}
 use Rattle.plane.specs.Vector.{times, nearestV}
-use Rattle.unit.specs.Turn.{headingLength, placedBy}
+use Rattle.unit.specs.Turn.{placedBy}
 use Rattle.unit.specs.Coupling.{Scalable}
 use Rattle.unit.proofs.UnitSizes.{placeable-scalable}
 use Rattle.unit.proofs.placed.Statement.{statement}

@@ -1,0 +1,4 @@
+pub mod Drawn
+pub mod Tests
+pub mod Units
+pub mod Rig

@@ -1,0 +1,19 @@
+// The walk of a rig along a path: its record, its tests and its step, by value and writing no run.
+use job::Vehicle;
+use plane::Vec2;
+
+pub mod tests;
+
+// How far a rig has come: its vehicle, the station reached, and a vector for each unit from rear axle to front point.
+pub struct Walk {
+    pub vehicle: Vehicle,
+    pub station: usize,
+    pub d: [Vec2; 4],
+}
+
+// What a step answers: made, refused, or refused at a unit, counted from 1.
+pub enum StepAnswer {
+    Made,
+    Refused(u8),
+    RefusedUnit(u8, usize),
+}
