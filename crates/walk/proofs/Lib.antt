@@ -1,0 +1,2 @@
+pub mod DrawLaws
+pub mod UnitsLaws

@@ -2,3 +2,4 @@ pub mod Drawn
 pub mod Tests
 pub mod Units
 pub mod Rig
+pub mod Inner

@@ -3,6 +3,7 @@ use job::Vehicle;
 use plane::Vec2;
 
 pub mod tests;
+pub mod units;
 
 // How far a rig has come: its vehicle, the station reached, and a vector for each unit from rear axle to front point.
 pub struct Walk {
@@ -16,4 +17,10 @@ pub enum StepAnswer {
     Made,
     Refused(u8),
     RefusedUnit(u8, usize),
+}
+
+// The vectors of the units after a step, or as they were where one was refused.
+pub struct UnitsTurned {
+    pub answer: StepAnswer,
+    pub d: [Vec2; 4],
 }
