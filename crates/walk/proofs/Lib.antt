@@ -1,2 +1,3 @@
 pub mod DrawLaws
 pub mod UnitsLaws
+pub mod MovingLaws

@@ -15,8 +15,8 @@ use Rattle.job.specs.Empty.{emptyUnit}
 use Rattle.unit.specs.declared.UnitTurn.{UnitTurn}
 use Rattle.unit.specs.declared.UnitTurn.the-variants as U
 use Rattle.unit.specs.Turn.{turnedBy, tooFar, Wheelbase}
-use Rattle.walk.specs.declared.StepAnswer.{StepAnswer}
-use Rattle.walk.specs.declared.StepAnswer.the-variants as S
+use Rattle.walk.specs.declared.Turns.{Turns}
+use Rattle.walk.specs.declared.Turns.the-variants as T
 use Rattle.walk.specs.declared.UnitsTurned.{UnitsTurned}
 use Rattle.walk.specs.Units.{wheelbaseOf, Ahead, none, behind, foldKept, Turning, turned, stopped}
 use Rattle.walk.specs.Rig.{zeroVector}
@@ -33,13 +33,12 @@ abbrev pub aheadIf : Bool → VehicleUnit → Vec2 → Ahead
 aheadIf t a d = pick t (behind a d) none
 
 -- the turns of all units, from what the code answers
+abbrev pub turningBy : Turns → List Vec2 → Turning
+turningBy T.All ds = turned ds
+turningBy (T.Stopped n i) ds = stopped n i
+
 abbrev pub turningOf : UnitsTurned → Turning
-turningOf r = byAnswer (r .answer) (r .d)
-  where
-    byAnswer : StepAnswer → List Vec2 → Turning
-    byAnswer S.Made ds = turned ds
-    byAnswer (S.Refused n) ds = stopped n 0
-    byAnswer (S.RefusedUnit n i) ds = stopped n i
+turningOf r = turningBy (r .turns) (r .d)
 
 -- a unit whose measures are in the job's range
 pub record UnitReady (u : VehicleUnit) : Type 0 where

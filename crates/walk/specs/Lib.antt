@@ -3,3 +3,4 @@ pub mod Tests
 pub mod Units
 pub mod Rig
 pub mod Inner
+pub mod Moving

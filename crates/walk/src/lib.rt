@@ -2,6 +2,7 @@
 use job::Vehicle;
 use plane::Vec2;
 
+pub mod moving;
 pub mod tests;
 pub mod units;
 
@@ -19,8 +20,20 @@ pub enum StepAnswer {
     RefusedUnit(u8, usize),
 }
 
+// Whether all units turned, or the refusal and the unit, counted from 1.
+pub enum Turns {
+    All,
+    Stopped(u8, usize),
+}
+
 // The vectors of the units after a step, or as they were where one was refused.
 pub struct UnitsTurned {
-    pub answer: StepAnswer,
+    pub turns: Turns,
     pub d: [Vec2; 4],
+}
+
+// What a step answers, with the record that it leaves.
+pub struct Advanced {
+    pub answer: StepAnswer,
+    pub walk: Walk,
 }

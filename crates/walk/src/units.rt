@@ -1,5 +1,5 @@
 // The units of a rig, drawn one after the other.
-use crate::StepAnswer;
+use crate::Turns;
 use crate::UnitsTurned;
 use job::Unit;
 use job::Vehicle;
@@ -80,7 +80,7 @@ pub fn turn_units(v: Vehicle, d: [Vec2; 4], old: Vec2, new: Vec2) -> UnitsTurned
         match t {
             UnitTurn::Refused(n) => {
                 return UnitsTurned {
-                    answer: StepAnswer::RefusedUnit(n, i + 1),
+                    turns: Turns::Stopped(n, i + 1),
                     d,
                 };
             }
@@ -95,7 +95,7 @@ pub fn turn_units(v: Vehicle, d: [Vec2; 4], old: Vec2, new: Vec2) -> UnitsTurned
         i += 1;
     }
     UnitsTurned {
-        answer: StepAnswer::Made,
+        turns: Turns::All,
         d: out,
     }
 }
