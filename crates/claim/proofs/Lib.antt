@@ -1,0 +1,3 @@
+pub mod UnitsKept
+pub mod StartKept
+pub mod CallsKept

@@ -1,0 +1,2 @@
+pub mod Rigid
+pub mod DemandThree
