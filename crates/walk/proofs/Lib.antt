@@ -1,0 +1,6 @@
+pub mod SizeTests
+pub mod PathTests
+pub mod VehicleTests
+pub mod VectorTests
+pub mod RecordTests
+pub mod TestWitnesses

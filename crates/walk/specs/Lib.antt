@@ -1,4 +1,5 @@
 pub mod Drawn
 pub mod Tests
+pub mod TestRequires
 pub mod Units
 pub mod Rig
