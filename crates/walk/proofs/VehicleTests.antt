@@ -7,10 +7,9 @@ use borrow.Author.Tests.{leb-true, eqb-true}
 use lib.Dec.{leb, eqb}
 use lib.ListN.{length, getD, length-take}
 use lib.Seq.{getD-take}
-use lib.IntN.{pos, natAbs}
+use lib.IntN.{natAbs}
 use Rattle.exact.specs.Size.{Within}
-use Rattle.exact.proofs.Order.{pos-≤}
-use Rattle.exact.proofs.Sizes.{within-more}
+use Rattle.exact.proofs.Order.{pos-≤, ≤-pos}
 use Rattle.number.proofs.FieldCodec.{both}
 use Rattle.job.specs.declared.Unit.{Unit as VehicleUnit}
 use Rattle.job.specs.declared.Vehicle.{Vehicle}
@@ -18,34 +17,29 @@ use Rattle.job.specs.Allowed.{wheelbaseAllowed, hitchMost, hitchAllowed, foldAl
 use Rattle.job.specs.Faults.{vehicleFault, unitFault, unitsFault}
 use Rattle.job.proofs.FaultLaws.{SoundVehicle, sound-vehicle, or-none, fault-at}
 use Rattle.job.proofs.FieldLaws.{hitch-most, fold-size}
-use Rattle.unit.specs.Turn.{Wheelbase}
 use Rattle.walk.specs.Tests.{vehicleSound, unitsInUse}
-
--- what a unit in use is
-pub record SoundUnit (u : VehicleUnit) : Type 0 where
-  pub wheelbase : Wheelbase (pos (u .wheelbase))
-  pub hitch : Within (u .wheelbase) (u .hitch)
-  pub hitchSize : Within 200000 (u .hitch)
-  pub fold : Within 1000 (u .fold)
+use Rattle.walk.specs.Inner.{UnitReady}
 
 -- a number that a range lets through
 bounds : (least most n : ℕ) → (leb least n && leb n most) ≡ true → (least ≤ n) × (n ≤ most)
 bounds least most n e = let p = both (leb least n) (leb n most) e in (leb-true least n (p .0), leb-true n most (p .1))
 
-sound-unit : (first last : Bool) (u : VehicleUnit) → unitAllowed first last u ≡ true → SoundUnit u
-sound-unit first last u e =
+ready : (first last : Bool) (u : VehicleUnit) → unitAllowed first last u ≡ true → UnitReady u
+ready first last u e =
     let h = hitchAllowed last (u .wheelbase) (u .hitch) in
     let f = foldAllowed first (u .fold) in
     let p = both (wheelbaseAllowed (u .wheelbase)) (h && f) e in
     let q = both h f (p .1) in
     let w = bounds 5000 200000 (u .wheelbase) (p .0) in
-    let size : Within (u .wheelbase) (u .hitch) = record { size = omega (arith, leb-true (natAbs (u .hitch)) (hitchMost last (u .wheelbase)) (q .0), hitch-most last (u .wheelbase)) } in
     record {
       wheelbase = record { least = pos-≤ (w .0); most = pos-≤ (w .1) };
-      hitch = size;
-      hitchSize = within-more (w .1) size;
+      hitch = omega (arith, leb-true (natAbs (u .hitch)) (hitchMost last (u .wheelbase)) (q .0), hitch-most last (u .wheelbase));
       fold = record { size = fold-size first (u .fold) (q .1) };
     }
+
+-- no hitch is larger than the greatest wheelbase
+pub hitch-size : {u : VehicleUnit} → UnitReady u → Within 200000 (u .hitch)
+hitch-size r = record { size = omega (arith, r .hitch, ≤-pos (r .wheelbase .most)) }
 
 module _ (v : Vehicle) (e : vehicleSound v ≡ true) where
   passed : SoundVehicle v
@@ -56,20 +50,21 @@ module _ (v : Vehicle) (e : vehicleSound v ≡ true) where
   pub units-counted : (1 ≤ v .count) × (v .count ≤ 4)
   units-counted = bounds 1 4 (v .count) (passed .count)
 
-  pub unit-sound : (i : ℕ) (z : VehicleUnit) → i < length (unitsInUse v) → SoundUnit (getD (unitsInUse v) i z)
+  -- each unit in use has its measures in range
+  pub unit-ready : (i : ℕ) (z : VehicleUnit) → i < length (unitsInUse v) → UnitReady (getD (unitsInUse v) i z)
   unfolding unitsFault
-  unit-sound i z h =
+  unit-ready i z h =
       let f = fault-at (unitFault (v .count)) (λ i u. i + 1) (λ i. 0) 0 (unitsInUse v) i z (passed .units) h in
       let first = eqb (f .0) 0 in
       let last = eqb (f .0 + 1) (v .count) in
-      sound-unit first last (getD (unitsInUse v) i z) (or-none (unitAllowed first last (getD (unitsInUse v) i z)) 3 0 (f .1) .0)
+      ready first last (getD (unitsInUse v) i z) (or-none (unitAllowed first last (getD (unitsInUse v) i z)) 3 0 (f .1) .0)
 
   -- the same, of the vehicle's own four places
   pub units-lengths : length (v .units) ≡ 4 → length (unitsInUse v) ≡ v .count
   units-lengths n = omega (arith, length-take (v .count) (v .units), units-counted)
 
-  pub unit-sound-at : length (v .units) ≡ 4 → (i : ℕ) (z : VehicleUnit) → i < v .count → SoundUnit (getD (v .units) i z)
-  unit-sound-at n i z h = subst SoundUnit (getD-take (v .count) (v .units) i z h) (unit-sound i z (omega (arith, units-lengths n)))
+  pub unit-ready-at : length (v .units) ≡ 4 → (i : ℕ) (z : VehicleUnit) → i < v .count → UnitReady (getD (v .units) i z)
+  unit-ready-at n i z h = subst UnitReady (getD-take (v .count) (v .units) i z h) (unit-ready i z (omega (arith, units-lengths n)))
 
   -- the overhang and the half widths
   widths : (overhangAllowed (v .overhang) ≡ true) × (halfWidthAllowed (v .«front_half_width») ≡ true) × (halfWidthAllowed (v .«rear_half_width») ≡ true)

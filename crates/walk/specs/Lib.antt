@@ -3,3 +3,5 @@ pub mod Tests
 pub mod TestRequires
 pub mod Units
 pub mod Rig
+pub mod Inner
+pub mod Moving

@@ -2,7 +2,9 @@
 use job::Vehicle;
 use plane::Vec2;
 
+pub mod moving;
 pub mod tests;
+pub mod units;
 
 // How far a rig has come: its vehicle, the station reached, and a vector for each unit from rear axle to front point.
 pub struct Walk {
@@ -16,4 +18,22 @@ pub enum StepAnswer {
     Made,
     Refused(u8),
     RefusedUnit(u8, usize),
+}
+
+// Whether all units turned, or the refusal and the unit, counted from 1.
+pub enum Turns {
+    All,
+    Stopped(u8, usize),
+}
+
+// The vectors of the units after a step, or as they were where one was refused.
+pub struct UnitsTurned {
+    pub turns: Turns,
+    pub d: [Vec2; 4],
+}
+
+// What a step answers, with the record that it leaves.
+pub struct Advanced {
+    pub answer: StepAnswer,
+    pub walk: Walk,
 }

@@ -16,7 +16,7 @@ use Rattle.path.proofs.TotalLaws.{unmapped}
 use Rattle.unit.proofs.Turning.{wheelbase-nominal}
 use Rattle.exact.proofs.Machine.{reread}
 use Rattle.walk.specs.Tests.{vectorsSound, unitsInUse}
-use Rattle.walk.proofs.VehicleTests.{units-counted, unit-sound-at}
+use Rattle.walk.proofs.VehicleTests.{units-counted, unit-ready-at}
 use Rattle.walk.proofs.VectorTests.{vector-used, vector-unused}
 use Rattle.walk.proofs.tests.vector_sound.Statement.{statement}
 use Rattle.walk.proofs.tests.vector_sound.Tie as tie
@@ -42,7 +42,7 @@ module _ (c : tie.Then1) where
       (vector-used u (drop (s .args .k + 1) (unitsInUse (s .args .v))) (s .args .d))
 
   nominal : Nominal (pos (u .wheelbase))
-  nominal = wheelbase-nominal (unit-sound-at (s .args .v) (s .pre .sound) (places s) (s .args .k) emptyUnit (c .if1 .taken) .wheelbase)
+  nominal = wheelbase-nominal (unit-ready-at (s .args .v) (s .pre .sound) (places s) (s .args .k) emptyUnit (c .if1 .taken) .wheelbase)
 
 mul-u : tie.Need-mul-u
 mul-u c = let s = c .before .before .before in record { fits = omega (arith, counted s, c .before .if1 .taken) }
