@@ -1,3 +1,10 @@
+pub mod SizeTests
+pub mod PathTests
+pub mod VehicleTests
+pub mod VectorTests
+pub mod RecordTests
+pub mod TestWitnesses
 pub mod DrawLaws
 pub mod UnitsLaws
 pub mod MovingLaws
+pub mod ReadyLaws

@@ -1,5 +1,6 @@
 pub mod Drawn
 pub mod Tests
+pub mod TestRequires
 pub mod Units
 pub mod Rig
 pub mod Inner

@@ -1,0 +1,85 @@
+-- What a vehicle that passed its test holds. Assumes nothing.
+use Prim.Native.Nat.{ℕ, _+_, _≤_, _<_}
+use mathlib.Core.Path.{_≡_, subst}
+use mathlib.Core.Bool.{Bool, true, _&&_}
+use native.Mathlib.Omega.{arith}
+use borrow.Author.Tests.{leb-true, eqb-true}
+use lib.Dec.{leb, eqb}
+use lib.ListN.{length, getD, length-take}
+use lib.Seq.{getD-take}
+use lib.IntN.{natAbs}
+use Rattle.exact.specs.Size.{Within}
+use Rattle.exact.proofs.Order.{pos-≤, ≤-pos}
+use Rattle.number.proofs.FieldCodec.{both}
+use Rattle.job.specs.declared.Unit.{Unit as VehicleUnit}
+use Rattle.job.specs.declared.Vehicle.{Vehicle}
+use Rattle.job.specs.Allowed.{wheelbaseAllowed, hitchMost, hitchAllowed, foldAllowed, overhangAllowed, halfWidthAllowed, unitAllowed}
+use Rattle.job.specs.Faults.{vehicleFault, unitFault, unitsFault}
+use Rattle.job.proofs.FaultLaws.{SoundVehicle, sound-vehicle, or-none, fault-at}
+use Rattle.job.proofs.FieldLaws.{hitch-most, fold-size}
+use Rattle.walk.specs.Tests.{vehicleSound, unitsInUse}
+use Rattle.walk.specs.Inner.{UnitReady}
+
+-- a number that a range lets through
+bounds : (least most n : ℕ) → (leb least n && leb n most) ≡ true → (least ≤ n) × (n ≤ most)
+bounds least most n e = let p = both (leb least n) (leb n most) e in (leb-true least n (p .0), leb-true n most (p .1))
+
+ready : (first last : Bool) (u : VehicleUnit) → unitAllowed first last u ≡ true → UnitReady u
+ready first last u e =
+    let h = hitchAllowed last (u .wheelbase) (u .hitch) in
+    let f = foldAllowed first (u .fold) in
+    let p = both (wheelbaseAllowed (u .wheelbase)) (h && f) e in
+    let q = both h f (p .1) in
+    let w = bounds 5000 200000 (u .wheelbase) (p .0) in
+    record {
+      wheelbase = record { least = pos-≤ (w .0); most = pos-≤ (w .1) };
+      hitch = omega (arith, leb-true (natAbs (u .hitch)) (hitchMost last (u .wheelbase)) (q .0), hitch-most last (u .wheelbase));
+      fold = record { size = fold-size first (u .fold) (q .1) };
+    }
+
+-- no hitch is larger than the greatest wheelbase
+pub hitch-size : {u : VehicleUnit} → UnitReady u → Within 200000 (u .hitch)
+hitch-size r = record { size = omega (arith, r .hitch, ≤-pos (r .wheelbase .most)) }
+
+module _ (v : Vehicle) (e : vehicleSound v ≡ true) where
+  passed : SoundVehicle v
+  unfolding vehicleSound
+  passed = sound-vehicle v (eqb-true (vehicleFault v) 0 e)
+
+  -- from 1 to 4 units
+  pub units-counted : (1 ≤ v .count) × (v .count ≤ 4)
+  units-counted = bounds 1 4 (v .count) (passed .count)
+
+  -- each unit in use has its measures in range
+  pub unit-ready : (i : ℕ) (z : VehicleUnit) → i < length (unitsInUse v) → UnitReady (getD (unitsInUse v) i z)
+  unfolding unitsFault
+  unit-ready i z h =
+      let f = fault-at (unitFault (v .count)) (λ i u. i + 1) (λ i. 0) 0 (unitsInUse v) i z (passed .units) h in
+      let first = eqb (f .0) 0 in
+      let last = eqb (f .0 + 1) (v .count) in
+      ready first last (getD (unitsInUse v) i z) (or-none (unitAllowed first last (getD (unitsInUse v) i z)) 3 0 (f .1) .0)
+
+  -- the same, of the vehicle's own four places
+  pub units-lengths : length (v .units) ≡ 4 → length (unitsInUse v) ≡ v .count
+  units-lengths n = omega (arith, length-take (v .count) (v .units), units-counted)
+
+  pub unit-ready-at : length (v .units) ≡ 4 → (i : ℕ) (z : VehicleUnit) → i < v .count → UnitReady (getD (v .units) i z)
+  unit-ready-at n i z h = subst UnitReady (getD-take (v .count) (v .units) i z h) (unit-ready i z (omega (arith, units-lengths n)))
+
+  -- the overhang and the half widths
+  widths : (overhangAllowed (v .overhang) ≡ true) × (halfWidthAllowed (v .«front_half_width») ≡ true) × (halfWidthAllowed (v .«rear_half_width») ≡ true)
+  widths =
+      let f = halfWidthAllowed (v .«front_half_width») in
+      let r = halfWidthAllowed (v .«rear_half_width») in
+      let p = both (overhangAllowed (v .overhang)) (f && r) (passed .widths) in
+      let q = both f r (p .1) in
+      (p .0, q .0, q .1)
+
+  pub overhang-most : v .overhang ≤ 50000
+  overhang-most = bounds 0 50000 (v .overhang) (widths .0) .1
+
+  pub front-bounds : (1000 ≤ v .«front_half_width») × (v .«front_half_width» ≤ 20000)
+  front-bounds = bounds 1000 20000 (v .«front_half_width») (widths .1)
+
+  pub rear-bounds : (1000 ≤ v .«rear_half_width») × (v .«rear_half_width» ≤ 20000)
+  rear-bounds = bounds 1000 20000 (v .«rear_half_width») (widths .2)
