@@ -1,0 +1,3 @@
+pub mod EndLaws
+pub mod PointLaws
+pub mod Filling
