@@ -1,18 +1,17 @@
 -- The ends of a rig: the rear end hitch by hitch, and how far from the first front point it may lie.
-use Prim.Native.Nat.{ℕ, zero, suc, _+_, _-_, _*_, _≤_, _<_}
-use mathlib.Core.Path.{_≡_, subst, sym}
+use Prim.Native.Nat.{ℕ, suc, _+_, _-_, _*_, _≤_, _<_}
+use mathlib.Core.Path.{_≡_}
 use mathlib.Core.List.{List, [], _∷_}
 use native.Mathlib.Nat as NatL
 use native.Mathlib.Omega.{arith}
 use native.Mathlib.Numerals.{add-one}
 use native.Mathlib.Decide.{decLe}
 use lib.Dec.{lit≤}
-use lib.ListN.{length, take, drop, getD, length-take, List·getD-eq-default}
+use lib.ListN.{length, take, drop, getD, List·getD-eq-default}
 use lib.Seq.{drop-cons, getD-take, length-take-le}
 use lib.IntN.{ℤ, pos, _*ℤ_}
-use lib.Signed.{_≤ℤ_}
-use Rattle.exact.proofs.Polynomial.{_⊕_, _⊖_, _⊗_, lit, var}
-use Rattle.exact.proofs.Certificate.{_⊞_, _⊠_, _·_, num, hyp, never}
+use Rattle.exact.proofs.Polynomial.{_⊖_, _⊗_, lit, var}
+use Rattle.exact.proofs.Certificate.{_⊞_, _⊠_, _·_, hyp, never}
 use Rattle.exact.proofs.Sizes.{within-add, within-sub, within-more}
 use Rattle.plane.specs.declared.Vec2.{Vec2}
 use Rattle.plane.specs.Vector.{Moderate}
@@ -28,7 +27,6 @@ use Rattle.unit.proofs.Hitching.{hitch-sized}
 use Rattle.walk.specs.Tests.{unitsInUse}
 use Rattle.walk.specs.Units.{wheelbaseOf, rearAxle, hitchAt}
 use Rattle.walk.specs.Rig.{zeroVector}
-use Rattle.points.specs.declared.End.{End}
 use Rattle.points.specs.Ends.{frontOf, rearOf, rearEnd}
 use Rattle.points.specs.Requires.{PlaceSized, UnitInRange, RigSized, RigAt, EndSized}
 
@@ -68,9 +66,6 @@ module _ {v : Vehicle} {ds : List Vec2} (rig : RigSized v ds) where
       by (no k) = omega arith
       by (yes k) = absurd ((rw (List·getD-eq-default (v .units) emptyUnit {n = i} k) at (rig .units i h .wheelbase .least)) .le)
 
-  pub vectors-enough : v .count ≤ length ds
-  vectors-enough = let h = vector-there {i = v .count - 1} (omega (arith, rig .least)) in omega (arith, rig .least)
-
   pub units-enough : v .count ≤ length (v .units)
   units-enough = let h = unit-there {i = v .count - 1} (omega (arith, rig .least)) in omega (arith, rig .least)
 
@@ -78,19 +73,20 @@ module _ {v : Vehicle} {ds : List Vec2} (rig : RigSized v ds) where
 drop-next : {A : Type 0} (xs : List A) (i : ℕ) (z : A) → i < length xs → drop i xs ≡ getD xs i z ∷ drop (i + 1) xs
 drop-next xs i z h = rw add-one (drop-cons xs i z h)
 
--- the rear end from unit i of n on, whose front point is p
-module _ (us : List VehicleUnit) (ds : List Vec2) (n i : ℕ) (p : Vec2) (hu : n ≤ length us) (hd : n ≤ length ds) where
-  -- it is that of the units behind, from the hitch on
-  pub rear-behind : i + 1 < n → rearEnd (drop i (take n us)) (drop i ds) p ≡ rearEnd (drop (i + 1) (take n us)) (drop (i + 1) ds) (hitchAt (getD us i emptyUnit) p (getD ds i zeroVector))
+-- the rear end of a rig whose last unit is at place `last`
+module _ (us : List VehicleUnit) (ds : List Vec2) (last : ℕ) (hu : last < length us) (hd : last < length ds) (p : Vec2) where
+  -- from unit i on, whose front point is p: that of the units behind, from the hitch on
+  pub rear-behind : (i : ℕ) → i < last → rearEnd (drop i (take (last + 1) us)) (drop i ds) p ≡ rearEnd (drop (i + 1) (take (last + 1) us)) (drop (i + 1) ds) (hitchAt (getD us i emptyUnit) p (getD ds i zeroVector))
   unfolding rearEnd
-  rear-behind h =
-      rw (taken-next us n i emptyUnit hu (omega arith), drop-next ds i zeroVector (omega arith), taken-next us n (i + 1) emptyUnit hu h)
+  rear-behind i h =
+      let n : last + 1 ≤ length us = omega arith in
+      rw (taken-next us (last + 1) i emptyUnit n (omega arith), drop-next ds i zeroVector (omega arith), taken-next us (last + 1) (i + 1) emptyUnit n (omega arith))
 
-  -- or the last unit's own rear axle
-  pub rear-last : i + 1 ≡ n → rearEnd (drop i (take n us)) (drop i ds) p ≡ record { place = rearAxle p (getD ds i zeroVector); d = getD ds i zeroVector; wheelbase = wheelbaseOf (getD us i emptyUnit) }
+  -- of the last unit: its own rear axle
+  pub rear-last : rearEnd (drop last (take (last + 1) us)) (drop last ds) p ≡ record { place = rearAxle p (getD ds last zeroVector); d = getD ds last zeroVector; wheelbase = wheelbaseOf (getD us last emptyUnit) }
   unfolding rearEnd
-  rear-last h =
-      rw (taken-next us n i emptyUnit hu (omega arith), drop-next ds i zeroVector (omega arith), taken-end us n (i + 1) (omega arith))
+  rear-last =
+      rw (taken-next us (last + 1) last emptyUnit (omega arith) (omega arith), drop-next ds last zeroVector hd, taken-end us (last + 1) (last + 1) (omega arith))
 
 -- the places a unit leads to
 module _ {u : VehicleUnit} {d : Vec2} (r : UnitInRange u d) where
@@ -100,8 +96,8 @@ module _ {u : VehicleUnit} {d : Vec2} (r : UnitInRange u d) where
   pub hitch-asked : Hitched d (u .hitch) (wheelbaseOf u)
   hitch-asked = near-hitched (r .wheelbase) (r .vector) (r .hitchLeast) (r .hitchMost)
 
-  pub offset-sized : UnitSized (hitchOffset d (u .hitch) (wheelbaseOf u))
-  offset-sized = hitch-sized d (u .hitch) (wheelbaseOf u) (r .wheelbase) (r .hitchLeast) (r .hitchMost) vector-sized
+  pub hitch-offset-sized : UnitSized (hitchOffset d (u .hitch) (wheelbaseOf u))
+  hitch-offset-sized = hitch-sized d (u .hitch) (wheelbaseOf u) (r .wheelbase) (r .hitchLeast) (r .hitchMost) vector-sized
 
   module _ {b : ℕ} {p : Vec2} (s : PlaceSized b p) where
     pub axle-placed : PlaceSized (b + 200000) (rearAxle p d)
@@ -110,7 +106,7 @@ module _ {u : VehicleUnit} {d : Vec2} (r : UnitInRange u d) where
     pub hitch-placed : PlaceSized (b + 400000) (hitchAt u p d)
     hitch-placed =
         place-more (omega arith)
-        (record { x = within-add (axle-placed .x) (offset-sized .x); y = within-add (axle-placed .y) (offset-sized .y) })
+        (record { x = within-add (axle-placed .x) (hitch-offset-sized .x); y = within-add (axle-placed .y) (hitch-offset-sized .y) })
 
 -- an end at the rear axle of a unit in range
 axle-end : {b : ℕ} {u : VehicleUnit} {p d : Vec2} → b + 200000 ≤ 152000000 → UnitInRange u d → PlaceSized b p → EndSized (record { place = rearAxle p d; d = d; wheelbase = wheelbaseOf u })

@@ -1,3 +1,6 @@
+pub mod Results
+pub mod Filling
 pub mod EndLaws
 pub mod PointLaws
-pub mod Filling
+pub mod Witnesses
+pub mod Rows

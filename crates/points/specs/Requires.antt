@@ -1,7 +1,7 @@
 -- What the functions of this crate require of their callers: a rig as the walk's tests let it pass (01, "Why a walk is turned down", 26 and 27).
 use Prim.Native.Nat.{ℕ, _≤_, _<_}
 use mathlib.Core.List.{List}
-use lib.ListN.{getD}
+use lib.ListN.{length, getD}
 use lib.IntN.{ℤ, pos, negℤ, _*ℤ_}
 use lib.Signed.{_≤ℤ_}
 use Rattle.exact.specs.Size.{Within}
@@ -14,6 +14,7 @@ use Rattle.unit.specs.Turn.{Wheelbase}
 use Rattle.walk.specs.Units.{wheelbaseOf}
 use Rattle.walk.specs.Rig.{zeroVector}
 use Rattle.points.specs.declared.End.{End}
+use Rattle.points.specs.Points.{pointRows}
 
 -- the size of a place: coordinates up to b
 pub record PlaceSized (b : ℕ) (p : Vec2) : Type 0 where
@@ -67,4 +68,4 @@ pub record Measured (v : Vehicle) (f r : End) (k : ℕ) : Type 0 where
   pub front : EndSized f
   pub rear : EndSized r
   pub body : BodySized v
-  pub number : k < 6
+  pub number : k < length pointRows

@@ -40,12 +40,36 @@ pub const POINT_COUNT: usize = 6;
 
 // The points by number.
 const ROWS: [Row; POINT_COUNT] = [
-    Row { base: Base::Front, along: Along::Overhang, side: Side::Left },
-    Row { base: Base::Front, along: Along::Overhang, side: Side::Right },
-    Row { base: Base::Front, along: Along::Nothing, side: Side::Left },
-    Row { base: Base::Front, along: Along::Nothing, side: Side::Right },
-    Row { base: Base::Rear, along: Along::Nothing, side: Side::Left },
-    Row { base: Base::Rear, along: Along::Nothing, side: Side::Right },
+    Row {
+        base: Base::Front,
+        along: Along::Overhang,
+        side: Side::Left,
+    },
+    Row {
+        base: Base::Front,
+        along: Along::Overhang,
+        side: Side::Right,
+    },
+    Row {
+        base: Base::Front,
+        along: Along::Nothing,
+        side: Side::Left,
+    },
+    Row {
+        base: Base::Front,
+        along: Along::Nothing,
+        side: Side::Right,
+    },
+    Row {
+        base: Base::Rear,
+        along: Along::Nothing,
+        side: Side::Left,
+    },
+    Row {
+        base: Base::Rear,
+        along: Along::Nothing,
+        side: Side::Right,
+    },
 ];
 
 // The hitch of a unit whose front point is `front`.

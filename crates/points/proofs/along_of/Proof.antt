@@ -1,30 +1,21 @@
-use mathlib.Core.Path.{_∙_}
-use mir.Syntax.{w64}
-use mir.Facts.{toZ-ofZ}
+-- `points::along_of` meets its contract.
 use borrow.Author.Needs.{needs}
+use Rattle.points.proofs.Results.{reread-result}
 use Rattle.points.proofs.along_of.Statement.{statement}
 use Rattle.points.proofs.along_of.Tie as tie
-use Rattle.points.proofs.along_of.Reads as reads
-use Rattle.points.proofs.along_of.Lts as lts
-use Rattle.exact.proofs.wide.Reads as wide-reads
 
--- src/lib.rt:112:28
 enum-told : tie.Need-enum-told
 enum-told c = search needs
 
--- src/lib.rt:112:28
 wide-requires : tie.Need-wide-requires
 wide-requires c κs = search needs
 
--- src/lib.rt:113:27
 enum-told-2 : tie.Need-enum-told-2
 enum-told-2 c = search needs
 
--- src/lib.rt:108:1
 returns : tie.Need-returns
-returns c = rw (c .before .enum-told .given .1) (toZ-ofZ {w = w64} (record { sfits = c .wide .ok }) ∙ c .wide .ensures)
+returns c = rw (c .before .enum-told .given .1) (reread-result (c .wide .ok) (c .wide .ensures))
 
--- src/lib.rt:108:1
 returns-2 : tie.Need-returns-2
 returns-2 c = rw (c .enum-told2 .given .1)
 
