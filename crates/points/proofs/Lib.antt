@@ -1,0 +1,6 @@
+pub mod Results
+pub mod Filling
+pub mod EndLaws
+pub mod PointLaws
+pub mod Witnesses
+pub mod Rows

@@ -4,8 +4,8 @@ use lib.ListN.{getD}
 use lib.IntN.{ℤ, pos}
 use Rattle.plane.specs.declared.Vec2.{Vec2}
 use Rattle.job.specs.declared.Unit.{Unit as VehicleUnit}
+use Rattle.job.specs.declared.Vehicle.{Vehicle}
 use Rattle.job.specs.Empty.{emptyUnit}
-use Rattle.walk.specs.Drawn.{Drawn}
 use Rattle.walk.specs.Tests.{unitsInUse}
 use Rattle.walk.specs.Units.{wheelbaseOf, rearAxle, hitchAt}
 use Rattle.walk.specs.Rig.{zeroVector}
@@ -32,8 +32,9 @@ rearEnd (u ∷ us) (d ∷ ds) front =
     (record { place = rearAxle front d; d = d; wheelbase = wheelbaseOf u })
     (rearEnd us ds (hitchAt u front d))
 
-abbrev pub frontOf : Drawn → Vec2 → End
-frontOf s front = frontEnd (unitsInUse (s .vehicle)) (s .vectors) front
+-- the same of a vehicle: its units in use
+abbrev pub frontOf : Vehicle → List Vec2 → Vec2 → End
+frontOf v ds front = frontEnd (unitsInUse v) ds front
 
-abbrev pub rearOf : Drawn → Vec2 → End
-rearOf s front = rearEnd (unitsInUse (s .vehicle)) (s .vectors) front
+abbrev pub rearOf : Vehicle → List Vec2 → Vec2 → End
+rearOf v ds front = rearEnd (unitsInUse v) ds front

@@ -1,5 +1,7 @@
 -- The six points of a rig (01, "Stations and the widest place"), as the table numbers them.
+use Prim.Native.Nat.{ℕ}
 use mathlib.Core.List.{List, [], _∷_, map}
+use lib.ListN.{getD}
 use lib.IntN.{ℤ, pos, negℤ}
 use Rattle.plane.specs.declared.Vec2.{Vec2}
 use Rattle.plane.specs.Vector.{plus, times, rightNormal, nearestV}
@@ -24,6 +26,10 @@ pointRows =
     row Front Overhang Left ∷ row Front Overhang Right
     ∷ row Front Nothing Left ∷ row Front Nothing Right
     ∷ row Rear Nothing Left ∷ row Rear Nothing Right ∷ []
+
+-- the row of point k
+abbrev pub rowAt : ℕ → Row
+rowAt k = getD pointRows k (row Front Overhang Left)
 
 -- the front half width at the front, the rear half width at the rear
 abbrev pub halfWidth : Vehicle → Base → ℤ
@@ -52,5 +58,8 @@ pointAt v front rear r =
     plus (e .place) (offsetFrom e (alongOf v (r .along)) (sideOf (r .side) (halfWidth v (r .base))))
 
 -- the points of a rig whose first front point lies at `front`
-unfoldable pub pointsOf : Drawn → Vec2 → List Vec2
-pointsOf s front = map (pointAt (s .vehicle) (frontOf s front) (rearOf s front)) pointRows
+unfoldable pub rigPoints : Vehicle → List Vec2 → Vec2 → List Vec2
+rigPoints v ds front = map (pointAt v (frontOf v ds front) (rearOf v ds front)) pointRows
+
+abbrev pub pointsOf : Drawn → Vec2 → List Vec2
+pointsOf s front = rigPoints (s .vehicle) (s .vectors) front

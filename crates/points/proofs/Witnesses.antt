@@ -1,0 +1,92 @@
+-- Each requirement of this crate can be met, at the ends of its ranges too.
+use Prim.Native.Nat.{ℕ, zero, suc, _<_}
+use mathlib.Core.List.{List, [], _∷_}
+use native.Mathlib.Omega.{arith}
+use lib.Dec.{lit≤}
+use lib.ListN.{getD}
+use lib.IntN.{ℤ, pos, negsuc}
+use lib.Signed.{leZ-yes}
+use Rattle.exact.specs.Size.{Within}
+use Rattle.plane.specs.declared.Vec2.{Vec2}
+use Rattle.job.specs.declared.Unit.{Unit as VehicleUnit}
+use Rattle.job.specs.declared.Vehicle.{Vehicle}
+use Rattle.job.specs.Empty.{emptyUnit}
+use Rattle.walk.specs.Rig.{zeroVector}
+use Rattle.points.specs.Ends.{frontOf, rearOf}
+use Rattle.points.specs.Requires.{PlaceSized, UnitInRange, UnitAt, BodySized, RigSized, RigAt, EndSized, OffsetSized, Measured}
+use Rattle.points.proofs.EndLaws.{place-more, front-sized, rear-sized}
+
+abbrev vec : ℤ → ℤ → Vec2
+vec a b = record { x = a; y = b }
+
+-- the longest unit, with its hitch as far behind the rear axle as may be, and the shortest, with none
+abbrev long : VehicleUnit
+long = record { wheelbase = 200000; hitch = negsuc 199999; fold = pos 0 }
+
+abbrev short : VehicleUnit
+short = record { wheelbase = 5000; hitch = pos 0; fold = pos 0 }
+
+long-met : UnitInRange long (vec (pos 0) (pos 200000))
+long-met =
+    record {
+      wheelbase = record { least = leZ-yes tt; most = leZ-yes tt };
+      hitchLeast = leZ-yes tt;
+      hitchMost = leZ-yes tt;
+      vector = record { low = leZ-yes tt; high = leZ-yes tt };
+    }
+
+short-met : UnitInRange short (vec (pos 3000) (negsuc 3999))
+short-met =
+    record {
+      wheelbase = record { least = leZ-yes tt; most = leZ-yes tt };
+      hitchLeast = leZ-yes tt;
+      hitchMost = leZ-yes tt;
+      vector = record { low = leZ-yes tt; high = leZ-yes tt };
+    }
+
+-- four units, the last the shortest
+abbrev rig : Vehicle
+rig = record { count = 4; units = long ∷ long ∷ long ∷ short ∷ []; overhang = 50000; «front_half_width» = 20000; «rear_half_width» = 20000 }
+
+abbrev vectors : List Vec2
+vectors = vec (pos 0) (pos 200000) ∷ vec (pos 0) (pos 200000) ∷ vec (pos 0) (pos 200000) ∷ vec (pos 3000) (negsuc 3999) ∷ []
+
+abbrev corner : Vec2
+corner = vec (pos 150000000) (negsuc 149999999)
+
+corner-met : PlaceSized 150000000 corner
+corner-met = record { x = record { size = lit≤ tt }; y = record { size = lit≤ tt } }
+
+units-met : (i : ℕ) → i < 4 → UnitInRange (getD (rig .units) i emptyUnit) (getD vectors i zeroVector)
+units-met zero h = long-met
+units-met (suc zero) h = long-met
+units-met (suc (suc zero)) h = long-met
+units-met (suc (suc (suc zero))) h = short-met
+units-met (suc (suc (suc (suc i)))) h = absurd (none i h)
+  where
+    none : (i : ℕ) → suc (suc (suc (suc i))) < 4 → ⊥
+    none i h = omega arith
+
+body-met : BodySized rig
+body-met = record { overhang = lit≤ tt; frontHalfWidth = lit≤ tt; rearHalfWidth = lit≤ tt }
+
+rig-met : RigSized rig vectors
+rig-met = record { least = lit≤ tt; most = lit≤ tt; units = units-met; body = body-met }
+
+at-met : RigAt rig vectors corner
+at-met = record { rig = rig-met; front = corner-met }
+
+unit-at-met : UnitAt long corner (vec (pos 0) (pos 200000))
+unit-at-met = record { unit = long-met; front = place-more (lit≤ tt) corner-met }
+
+end-met : EndSized (rearOf rig vectors corner)
+end-met = rear-sized at-met
+
+width-met : Within 20000 (pos 20000)
+width-met = record { size = lit≤ tt }
+
+offset-met : OffsetSized (rearOf rig vectors corner) (pos 50000) (negsuc 19999)
+offset-met = record { end = end-met; along = record { size = lit≤ tt }; side = record { size = lit≤ tt } }
+
+measured-met : Measured rig (frontOf rig vectors corner) (rearOf rig vectors corner) 5
+measured-met = record { front = front-sized at-met; rear = end-met; body = body-met; number = lit≤ tt }

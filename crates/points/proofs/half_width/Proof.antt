@@ -1,0 +1,27 @@
+-- `points::half_width` meets its contract.
+use borrow.Author.Needs.{needs}
+use Rattle.points.proofs.Results.{reread-result}
+use Rattle.points.proofs.half_width.Statement.{statement}
+use Rattle.points.proofs.half_width.Tie as tie
+
+enum-told : tie.Need-enum-told
+enum-told c = search needs
+
+wide-requires : tie.Need-wide-requires
+wide-requires c κs = search needs
+
+enum-told-2 : tie.Need-enum-told-2
+enum-told-2 c = search needs
+
+wide-requires-2 : tie.Need-wide-requires-2
+wide-requires-2 c κs = search needs
+
+returns : tie.Need-returns
+returns c = rw (c .before .enum-told .given .1) (reread-result (c .wide .ok) (c .wide .ensures))
+
+returns-2 : tie.Need-returns-2
+returns-2 c = rw (c .before .enum-told2 .given .1) (reread-result (c .wide2 .ok) (c .wide2 .ensures))
+
+pub half-width-spec : {M : Type 1} → statement M
+half-width-spec =
+    tie.close (tie.spec enum-told wide-requires enum-told-2 wide-requires-2 returns returns-2)
