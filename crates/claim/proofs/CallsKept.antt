@@ -15,61 +15,24 @@ use Rattle.job.specs.declared.Vehicle.{Vehicle}
 use Rattle.job.specs.Allowed.{between}
 use Rattle.path.specs.Laying.{roomFor}
 use Rattle.walk.specs.declared.Walk.{Walk}
-use Rattle.walk.specs.Drawn.{Drawn, view, Call, stationAt, Outcome, made, outcomeOf}
-use Rattle.walk.specs.Tests.{lent, pathLent, reachesLent, pathSound, vehicleSound, recordSound, atLast, unitsInUse}
-use Rattle.walk.specs.Units.{none, Turning, turned, stopped}
-use Rattle.walk.specs.Rig.{Stepped, turningOf, afterTurning, turnedDown, drawnStart, drawStep}
+use Rattle.walk.specs.Drawn.{Drawn, view, Call, Outcome, outcomeOf}
+use Rattle.walk.specs.Tests.{lent, pathLent, reachesLent, pathSound, vehicleSound}
+use Rattle.walk.specs.Rig.{Stepped, drawnStart, drawStep}
 use Rattle.reaches.specs.Cells.{Reaches}
 use Rattle.stations.specs.declared.Placing.{Placing}
 use Rattle.stations.specs.declared.PlaceAnswer.the-variants as P
 use Rattle.stations.specs.Placing.{placeRefusal, placeAnswer, unlessRefused, startHeading, PlaceEnsures}
 use Rattle.stations.specs.Stepping.{StepEnsures}
-use Rattle.claim.specs.Rigid.{AllNearRigid, AllOfLength}
-use Rattle.claim.specs.DemandThree.{drawnAnswers, drawnEnd, Turn, Chain, lastRecord, StepNear, Always, Walked, DemandThree}
-use Rattle.claim.proofs.UnitsKept.{AllWheelbases, sound-wheelbases, units-kept}
-use Rattle.claim.proofs.StartKept.{start-kept, start-heading}
-
--- what the drawn rig has at every moment
-pub record Having (s : Drawn) : Type 0 where
-  pub wheelbases : AllWheelbases (unitsInUse (s .vehicle))
-  pub lengths : AllOfLength (unitsInUse (s .vehicle)) (s .vectors)
-
--- one call
-module _ (s : Drawn) (c : Call) (h : Having s) where
-  abbrev old : Vec2
-  old = stationAt (c .path) (s .station) .position
-
-  abbrev new : Vec2
-  new = stationAt (c .path) (s .station + 1) .position
-
-  abbrev Good : Stepped → Type 0
-  Good r = Having (r .state) × (r .answer ≡ made → AllNearRigid (unitsInUse (s .vehicle)) (s .vectors) (r .state .vectors) old new)
-
-  down-good : (n : ℕ) → Good (turnedDown s n)
-  down-good n = (h, λ e. absurd (let z : _≡_ {A = ℕ} 0 1 = cc in omega arith))
-
-  after-good : (t : Turning) → turningOf s c ≡ t → Good (afterTurning s t)
-  after-good (turned ds) e =
-      let k = units-kept 1 none (unitsInUse (s .vehicle)) (s .vectors) ds old new (h .wheelbases) (h .lengths) e in
-      (record { wheelbases = h .wheelbases; lengths = k .0 }, λ q. k .1)
-  after-good (stopped n u) e = (h, λ q. absurd (let z : _≡_ {A = ℕ} 0 1 = cc in omega arith))
-
-  by-tests : (a b d e : Bool) (r : Stepped) → Good r → Good (pick a (pick b (pick d (pick e (turnedDown s 25) r) (turnedDown s 27)) (turnedDown s 26)) (turnedDown s 21))
-  by-tests false b d e r g = down-good 21
-  by-tests true false d e r g = down-good 26
-  by-tests true true false e r g = down-good 27
-  by-tests true true true true r g = down-good 25
-  by-tests true true true false r g = g
-
-  pub call-good : Good (drawStep s c)
-  unfolding drawStep
-  call-good = by-tests (lent c) (pathSound (c .asked) (c .path)) (recordSound (c .asked) s) (atLast (c .asked) s) (afterTurning s (turningOf s c)) (after-good (turningOf s c) refl)
+use Rattle.walk.specs.Rigid.{Keeping}
+use Rattle.claim.specs.DemandThree.{drawnAnswers, drawnEnd, Turn, Chain, lastRecord, Always, Walked, DemandThree}
+use Rattle.walk.proofs.StartKept.{start-heading}
+use Rattle.walk.proofs.StepKept.{step-rule}
 
 -- all calls of the drawn rig
-pub always : (s : Drawn) → Having s → (cs : List Call) → Always s cs
+pub always : (s : Drawn) → Keeping s → (cs : List Call) → Always s cs
 unfolding Always
 always s h [] = h .lengths
-always s h (c ∷ cs) = let g = call-good s c h in (h .lengths, g .1, always (drawStep s c .state) (g .0) cs)
+always s h (c ∷ cs) = (h .lengths, step-rule .near s c h, always (drawStep s c .state) (step-rule .kept s c h) cs)
 
 -- the program's calls follow it
 stepped : (s : Drawn) (w : Walk) → view w ≡ s → (t : Turn) → StepEnsures w (t .call) (t .before) (t .result) (t .after) → record { answer = outcomeOf (t .result .answer); state = view (t .result .walk) } ≡ drawStep s (t .call)
@@ -107,11 +70,11 @@ some-asked c e =
     let b = both (between 1 2001 (c .asked)) (roomFor (c .asked) (c .path)) a .0 in
     leb-true 1 (c .asked) (both (leb 1 (c .asked)) (leb (c .asked) 2001) b .0)
 
-having-start : (v : Vehicle) (c : Call) → placeRefusal v c ≡ 0 → Having (drawnStart v (startHeading c))
+having-start : (v : Vehicle) (c : Call) → placeRefusal v c ≡ 0 → Keeping (drawnStart v (startHeading c))
 unfolding placeRefusal
 having-start v c e =
     let t = passed (lent c) (pathSound (c .asked) (c .path)) (vehicleSound v) e in
-    record { wheelbases = sound-wheelbases v (t .2); lengths = start-kept v (startHeading c) (t .2) (at-least-one (c .asked) (some-asked c (t .0)) (t .1)) }
+    record { vehicle = t .2; lengths = step-rule .start v (startHeading c) (t .2) (at-least-one (c .asked) (some-asked c (t .0)) (t .1)) }
   where
     at-least-one : (n : ℕ) → 1 ≤ n → pathSound n (c .path) ≡ true → Near (startHeading c) headingLength (pos 2 *ℤ headingLength)
     at-least-one zero h q = absurd (omega arith)

@@ -1,3 +1,1 @@
-pub mod UnitsKept
-pub mod StartKept
 pub mod CallsKept

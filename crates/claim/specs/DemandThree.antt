@@ -1,12 +1,10 @@
 -- Demand 3: one claim about any list of step calls after an accepted placement (01, "The two rigs of demand 3").
-use Prim.Native.Nat.{ℕ, _+_}
 use mathlib.Core.Path.{_≡_}
 use mathlib.Core.List.{List, [], _∷_, map}
-use Rattle.plane.specs.declared.Vec2.{Vec2}
 use Rattle.job.specs.declared.Vehicle.{Vehicle}
 use Rattle.walk.specs.declared.Walk.{Walk}
 use Rattle.walk.specs.declared.Advanced.{Advanced}
-use Rattle.walk.specs.Drawn.{Drawn, view, Call, stationAt, Outcome, made, outcomeOf}
+use Rattle.walk.specs.Drawn.{Drawn, view, Call, Outcome, made, outcomeOf}
 use Rattle.walk.specs.Tests.{unitsInUse}
 use Rattle.walk.specs.Rig.{drawnStart, drawStep}
 use Rattle.reaches.specs.Cells.{Reaches}
@@ -14,7 +12,7 @@ use Rattle.stations.specs.declared.Placing.{Placing}
 use Rattle.stations.specs.declared.PlaceAnswer.the-variants as P
 use Rattle.stations.specs.Placing.{startHeading, PlaceEnsures}
 use Rattle.stations.specs.Stepping.{StepEnsures}
-use Rattle.claim.specs.Rigid.{AllNearRigid, AllOfLength}
+use Rattle.walk.specs.Rigid.{AllOfLength, StepNear}
 
 -- the drawn rig, fed the calls: its answers, and the state after the last
 unfoldable pub drawnAnswers : Drawn → List Call → List Outcome
@@ -40,12 +38,6 @@ Chain w (t ∷ ts) = StepEnsures w (t .call) (t .before) (t .result) (t .after) 
 unfoldable pub lastRecord : Walk → List Turn → Walk
 lastRecord w [] = w
 lastRecord w (t ∷ ts) = lastRecord (t .result .walk) ts
-
--- in a step that is made every unit stays near the rigid one, its front point moving in that call's path
-abbrev pub StepNear : Drawn → Call → Type 0
-StepNear s c =
-    AllNearRigid (unitsInUse (s .vehicle)) (s .vectors) (drawStep s c .state .vectors)
-    (stationAt (c .path) (s .station) .position) (stationAt (c .path) (s .station + 1) .position)
 
 -- lengths at the placement and after every call, lines in every step not refused
 unfoldable pub Always : Drawn → List Call → Type 0

@@ -1,2 +1,1 @@
-pub mod Rigid
 pub mod DemandThree

@@ -8,3 +8,6 @@ pub mod DrawLaws
 pub mod UnitsLaws
 pub mod MovingLaws
 pub mod ReadyLaws
+pub mod UnitsKept
+pub mod StartKept
+pub mod StepKept

@@ -5,3 +5,4 @@ pub mod Units
 pub mod Rig
 pub mod Inner
 pub mod Moving
+pub mod Rigid

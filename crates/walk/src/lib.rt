@@ -1,6 +1,7 @@
 // The walk of a rig along a path: its record, its tests and its step, by value and writing no run.
 use job::Vehicle;
 use plane::Vec2;
+ghost use Rattle.walk.specs.Rigid.{StepRule};
 
 pub mod moving;
 pub mod tests;
@@ -37,3 +38,8 @@ pub struct Advanced {
     pub answer: StepAnswer,
     pub walk: Walk,
 }
+
+// Claim: the vectors of a placement have their lengths, a call of the drawn rig keeps them, and a made step stays near the rigid unit.
+pub fn step_rule()
+    ensures { λ _. ⌜ StepRule ⌝ }
+{}

@@ -21,9 +21,9 @@ use Rattle.job.proofs.FaultLaws.{sound-vehicle, first-none, or-none}
 use Rattle.unit.specs.Turn.{turnedBy, tooFar, mirrorLine, image, Wheelbase, Turnable}
 use Rattle.unit.proofs.UnitTests.{move-of}
 use Rattle.unit.proofs.Turning.{rule}
 use Rattle.walk.specs.Tests.{vehicleSound, unitsInUse}
 use Rattle.walk.specs.Units.{wheelbaseOf, hitchAt, Ahead, behind, foldKept, Turning, turned, stopped, onto, turnUnits}
-use Rattle.claim.specs.Rigid.{NearRigid, AllNearRigid, AllOfLength}
+use Rattle.walk.specs.Rigid.{NearRigid, AllNearRigid, AllOfLength}
 
 -- the wheelbases of the units in use are in range
 abbrev pub AllWheelbases : List VehicleUnit → Type 0

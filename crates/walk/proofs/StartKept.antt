@@ -21,12 +21,12 @@ use Rattle.job.proofs.FaultLaws.{sound-vehicle}
 use Rattle.unit.specs.Turn.{placedBy}
 use Rattle.unit.proofs.Placing.{rule}
 use Rattle.path.specs.Laying.{PathRuns}
 use Rattle.walk.specs.Drawn.{stationAt}
 use Rattle.walk.specs.Tests.{stationSound, pathSound, vehicleSound, unitsInUse}
 use Rattle.walk.specs.Units.{wheelbaseOf}
 use Rattle.walk.specs.Rig.{zeroVector, startVectors}
-use Rattle.claim.specs.Rigid.{AllOfLength}
-use Rattle.claim.proofs.UnitsKept.{AllWheelbases, sound-wheelbases}
+use Rattle.walk.specs.Rigid.{AllOfLength}
+use Rattle.walk.proofs.UnitsKept.{AllWheelbases, sound-wheelbases}
 
 all-placed : (g : Vec2) (us : List VehicleUnit) (rest : List Vec2) → Near g headingLength (pos 2 *ℤ headingLength) → AllWheelbases us
     → AllOfLength us (map (λ (u : VehicleUnit). placedBy g (wheelbaseOf u)) us ++ rest)
