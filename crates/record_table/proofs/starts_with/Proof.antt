@@ -1,7 +1,7 @@
 -- `record_table::starts_with` is safe and ends. Assumes nothing.
 use borrow.Author.Needs.{needs}
-use Prim.Native.Nat.{_-_, _≤_}
 use native.Mathlib.Omega.{arith}
+use Prim.Native.Nat.{_-_, _≤_}
 use lib.ListN.{length}
 use Rattle.record_table.proofs.starts_with.Statement.{statement}
 use Rattle.record_table.proofs.starts_with.Tie as tie

@@ -1,16 +1,18 @@
--- `record_table::put_number` is safe and ends. Assumes nothing.
+-- `record_table::records::put_number` is safe and ends. Assumes nothing.
 use borrow.Author.Needs.{needs}
-use Rattle.record_table.proofs.put_number.Statement.{statement}
-use Rattle.record_table.proofs.put_number.Tie as tie
+use native.Mathlib.Omega.{arith}
+use Prim.Native.Nat.{_-_, _≤_}
+use Rattle.record_table.proofs.records.put_number.Statement.{statement}
+use Rattle.record_table.proofs.records.put_number.Tie as tie
 
 abbrev Inv-loop : tie.InvT-loop
-Inv-loop x out₀ y₀ out y = Unit {0}
+Inv-loop x out₀ y₀ out y = 0 ≤ y
 
 abbrev μ-loop : tie.MeasureT-loop
 μ-loop x out₀ y₀ out y = y
 
 loop-holds : tie.Need-loop-holds Inv-loop μ-loop
-loop-holds c = tt
+loop-holds c = omega arith
 
 add-put-byte : tie.Need-add-put-byte Inv-loop μ-loop
 add-put-byte c = search needs
@@ -25,7 +27,7 @@ loop-less : tie.Need-loop-less Inv-loop μ-loop
 loop-less c = search needs
 
 loop-again : tie.Need-loop-again Inv-loop μ-loop
-loop-again c = tt
+loop-again c = omega arith
 
 cast-put-byte-2 : tie.Need-cast-put-byte-2 Inv-loop μ-loop
 cast-put-byte-2 c = search needs

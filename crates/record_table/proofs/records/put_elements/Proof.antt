@@ -1,9 +1,9 @@
--- `record_table::put_elements` is safe and ends. Assumes nothing.
+-- `record_table::records::put_elements` is safe and ends. Assumes nothing.
 use borrow.Author.Needs.{needs}
-use Prim.Native.Nat.{_-_, _≤_}
 use native.Mathlib.Omega.{arith}
-use Rattle.record_table.proofs.put_elements.Statement.{statement}
-use Rattle.record_table.proofs.put_elements.Tie as tie
+use Prim.Native.Nat.{_-_, _≤_}
+use Rattle.record_table.proofs.records.put_elements.Statement.{statement}
+use Rattle.record_table.proofs.records.put_elements.Tie as tie
 
 abbrev Inv-loop : tie.InvT-loop
 Inv-loop c count out₀ i₀ out i = i ≤ count
