@@ -1,5 +1,5 @@
 -- What the tests of a job's fields let through. Assumes nothing.
-use Prim.Native.Nat.{ℕ, zero, suc, _+_, _≤_}
+use Prim.Native.Nat.{ℕ, zero, suc, _≤_}
 use mathlib.Core.Path.{_≡_}
 use mathlib.Core.Bool.{Bool, true, false}
 use native.Mathlib.Omega.{arith}
@@ -8,8 +8,6 @@ use lib.IntN.{ℤ, pos, negsuc, negℤ, natAbs}
 use lib.Signed.{leZ, _≤ℤ_}
 use borrow.Author.Tests.{leb-true}
 use Rattle.number.proofs.FieldCodec.{both}
-use Rattle.plane.specs.declared.Vec2.{Vec2}
-use Rattle.plane.specs.Length.{hasLength}
 use Rattle.plane.proofs.Lengths.{near-of, coordinates}
 use Rattle.job.specs.Allowed.{hitchMost, foldAllowed, headingAllowed, curveAllowed}
 use Rattle.job.specs.Curves.{radiusOf}

@@ -1,11 +1,10 @@
 -- What one element adds to the total of steps. Assumes nothing.
 use Prim.Native.Nat.{ℕ, _+_, _/_, _%_, _≤_}
 use mathlib.Core.Path.{_≡_}
-use mathlib.Core.Bool.{Bool, true, false}
+use mathlib.Core.Bool.{true}
 use native.Mathlib.Omega.{arith}
 use native.Mathlib.Nat.{div-le-self}
 use lib.Dec.{eqb}
-use Rattle.number.specs.Read.{pick}
 use Rattle.number.proofs.GroupLaws.{pick-by}
 use Rattle.number.proofs.FieldCodec.{both, within-most}
 use Rattle.job.specs.declared.Element.{Element}

@@ -1,11 +1,10 @@
 -- What the fields of a job may hold: the table of 01, "The job record", row by row.
 use Prim.Native.Nat.{ℕ}
-use mathlib.Core.Bool.{Bool, true, false, _&&_}
+use mathlib.Core.Bool.{Bool, true, _&&_}
 use lib.IntN.{ℤ, pos, negsuc}
 use lib.Signed.{leZ}
 use Rattle.number.specs.Read.{pick}
 use Rattle.number.specs.Field.{within, sizeAtMost}
-use Rattle.number.specs.declared.Range.{Range}
 use Rattle.plane.specs.Length.{hasLength}
 use Rattle.job.specs.declared.Curve.{Curve}
 use Rattle.job.specs.declared.Curve.the-variants.{Straight, Arc}

@@ -1,5 +1,5 @@
 -- The radius field of an element: "Radius 0 is a straight" (01, "The job record"), "a right turn has a positive radius" (01, "Ticks, axes and rounding").
-use Prim.Native.Nat.{ℕ, zero, suc}
+use Prim.Native.Nat.{zero, suc}
 use mathlib.Core.Bool.{Bool}
 use lib.IntN.{ℤ, pos, negsuc, negℤ}
 use Rattle.job.specs.Allowed.{curveAllowed}

@@ -1,7 +1,7 @@
 -- The faults 3 to 9 of a job handed over by value, in the order of its fields, and 0 for none (01, "Why a job is turned down").
 use Prim.Native.Nat.{ℕ, zero, suc, _+_}
 use mathlib.Core.List.{List, [], _∷_}
-use mathlib.Core.Bool.{Bool, true, false}
+use mathlib.Core.Bool.{Bool}
 use lib.ListN.{take}
 use lib.Dec.{eqb}
 use Rattle.number.specs.Read.{pick}

@@ -1,5 +1,5 @@
 -- The curve of a signed radius, from the field that holds it. Assumes nothing.
-use Prim.Native.Nat.{ℕ, zero, suc, _+_, _%_, _/_}
+use Prim.Native.Nat.{zero, suc, _+_, _%_, _/_}
 use mathlib.Core.Path.{_≡_, refl, ap}
 use native.Mathlib.Omega.{arith}
 use lib.IntN.{ℤ, pos, negsuc}

@@ -1,16 +1,16 @@
 -- What a field or an element that was read meets, and what an element adds to the total of steps. Assumes nothing.
 use Prim.Native.Nat.{ℕ, _+_, _≤_}
-use mathlib.Core.Path.{_≡_, refl, sym, _∙_, ap, subst}
+use mathlib.Core.Path.{_≡_, refl, sym, _∙_, ap}
 use mathlib.Core.List.{List}
 use mathlib.Core.Bool.{Bool, true}
 use lib.IntN.{ℤ}
-use Rattle.number.specs.Read.{Read, got, refused, Reader, andThen, unless, return}
+use Rattle.number.specs.Read.{got, andThen, unless, return}
 use Rattle.number.specs.Number.{readNumber}
 use Rattle.number.specs.Field.{within, field, signedNumber, signedField}
 use lib.Dec.{leb}
 use borrow.Author.Tests.{leb-true}
 use Rattle.number.proofs.Codec.{first, chosen}
-use Rattle.job.specs.Allowed.{lengthAllowed, curveAllowed, elementAllowed}
+use Rattle.job.specs.Allowed.{lengthAllowed, elementAllowed}
 use Rattle.job.specs.Curves.{curveOf, radiusAllowed}
 use Rattle.job.specs.Steps.{tally}
 use Rattle.job.specs.declared.Element.{Element}

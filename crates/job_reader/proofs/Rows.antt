@@ -4,7 +4,7 @@ use mathlib.Core.Path.{_≡_, refl}
 use mathlib.Core.List.{List, [], _∷_}
 use lib.ListN.{set}
 use lib.IntN.{pos}
-use Rattle.number.specs.Read.{Read, got, refused, many}
+use Rattle.number.specs.Read.{got, many}
 use Rattle.number.specs.Number.{groups, readNumber}
 use Rattle.number.specs.Field.{field, signedNumber, signedField}
 use Rattle.plane.specs.Length.{hasLength}

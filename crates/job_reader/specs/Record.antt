@@ -4,7 +4,6 @@ use mathlib.Core.List.{List, []}
 use mathlib.Core.Bool.{Bool}
 use lib.ListN.{length}
 use lib.Dec.{eqb}
-use lib.IntN.{ℤ}
 use Rattle.number.specs.Read.{Read, got, refused, Reader, pick, _>>=_, return, here, unless, many, into}
 use Rattle.number.specs.Field.{field, signedNumber, signedField}
 use Rattle.job.specs.Allowed.{unitCountAllowed, wheelbaseAllowed, hitchAllowed, foldAllowed, overhangAllowed, halfWidthAllowed, coordinateAllowed, headingAllowed, stepAllowed, elementCountAllowed, lengthAllowed}

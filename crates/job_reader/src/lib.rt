@@ -70,16 +70,13 @@ pub struct JobRead {
 fn passed_refusal(a: Passed) -> Refusal
     ensures { λ r. ⌜ r ≡ refusalOf (asPassed a) ⌝ }
 {
-    match a {
-        Passed::At(_) => Refusal {
+    let Passed::Refused(number, place) = a else {
+        return Refusal {
             number: 0,
             place: 0,
-        },
-        Passed::Refused(n, p) => Refusal {
-            number: n,
-            place: p,
-        },
-    }
+        };
+    };
+    Refusal { number, place }
 }
 
 fn refused_job(w: Refusal) -> JobRead

@@ -1,19 +1,16 @@
 -- The outcomes of the writer. Assumes nothing.
-use Prim.Native.Nat.{ℕ, zero, suc, _+_, _≤_, _<_}
-use mathlib.Core.Path.{_≡_, refl, sym, _∙_, ap}
+use Prim.Native.Nat.{ℕ, zero, suc, _≤_}
+use mathlib.Core.Path.{_≡_, refl, _∙_, ap}
 use mathlib.Core.List.{List}
-use native.Mathlib.Omega.{arith}
 use native.Mathlib.Nat.{zero-add}
 use lib.ListN.{length, take, replicate}
 use lib.Seq.{sets}
-use lib.Dec.{leb}
 use Rattle.number.proofs.CodecMany.{take-sets}
 use Rattle.job.specs.declared.Job.{Job}
 use Rattle.job_writer.specs.Write.{writeJob}
 use Rattle.job_writer.specs.Encoding.{appended, nothing}
 use Rattle.job_writer.specs.Answers.{writeFault, wrote, runAfter, WriteEnsures}
 use Rattle.job_writer.specs.declared.Encoded.{Encoded}
-use Rattle.job_writer.specs.declared.Wrote.{Wrote}
 use Rattle.job_writer.specs.declared.Wrote.the-variants as W
 
 module _ (j : Job) (before : List ℕ) (four : length (j .vehicle .units) ≡ 4) (sixty-four : length (j .elements) ≡ 64) where

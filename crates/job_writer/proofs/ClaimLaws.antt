@@ -1,16 +1,15 @@
 -- The claims about reading and writing jobs. Assumes nothing.
-use Prim.Native.Nat.{ℕ, zero, suc, _+_, _≤_, _<_}
-use mathlib.Core.Path.{_≡_, refl, sym, _∙_, ap, subst}
-use mathlib.Core.List.{List, []}
+use Prim.Native.Nat.{ℕ, zero, suc, _≤_}
+use mathlib.Core.Path.{_≡_, refl, sym, _∙_, ap}
+use mathlib.Core.List.{List}
 use native.Mathlib.Omega.{arith}
 use lib.ListN.{length, take}
 use lib.Seq.{sets}
 use lib.Dec.{leb}
-use mathlib.Core.Bool.{Bool, true, false}
 use borrow.Author.Tests.{le-leb, leb-true}
-use Rattle.number.specs.Read.{Bytes, Read, got, refused, pick}
+use Rattle.number.specs.Read.{Bytes, Read, got, refused}
 use Rattle.number.proofs.CodecMany.{take-sets}
-use Rattle.job.specs.Faults.{orFault, firstOf, judge}
+use Rattle.job.specs.Faults.{orFault, judge}
 use Rattle.job.specs.Empty.{cleared}
 use Rattle.job.specs.declared.Job.{Job}
 use Rattle.job.proofs.FaultLaws.{first-none, or-none}
@@ -19,13 +18,11 @@ use Rattle.job_reader.specs.Answers.{jobRead, ReadEnsures}
 use Rattle.job_reader.specs.declared.ReadAnswer.the-variants as A
 use Rattle.job_reader.specs.declared.JobRead.{JobRead}
 use Rattle.job_writer.specs.Write.{writeJob}
-use Rattle.job_writer.specs.Length.{longestRecord}
-use Rattle.job_writer.specs.Answers.{writeFault, wrote, runAfter, WriteEnsures}
+use Rattle.job_writer.specs.Answers.{writeFault, wrote}
 use Rattle.job_writer.specs.Claims.{OneEncoding, RecordLength}
-use Rattle.job_writer.specs.declared.Wrote.{Wrote}
 use Rattle.job_writer.specs.declared.Wrote.the-variants as W
 use Rattle.job_writer.proofs.LengthLaws.{record-length}
-use Rattle.job_writer.proofs.RoundTrip.{Back, written-read, read-written, Same, cleared-same}
+use Rattle.job_writer.proofs.RoundTrip.{Back, written-read, read-written, cleared-same}
 use Rattle.job_writer.proofs.Reach.{first-bytes}
 
 -- an accepted reading is one of the job beside it

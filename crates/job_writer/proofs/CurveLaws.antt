@@ -1,10 +1,10 @@
 -- The field of a radius that is allowed. Assumes nothing.
-use Prim.Native.Nat.{ℕ, zero, suc, _+_, _*_, _-_, _≤_}
-use mathlib.Core.Path.{_≡_, refl}
+use Prim.Native.Nat.{ℕ, zero, suc, _*_, _-_, _≤_}
+use mathlib.Core.Path.{_≡_}
 use mathlib.Core.Bool.{true}
 use native.Mathlib.Omega.{arith}
 use lib.Dec.{leb}
-use lib.IntN.{pos, negsuc, negℤ}
+use lib.IntN.{pos, negℤ}
 use borrow.Author.Tests.{leb-true}
 use Rattle.number.specs.Signed.{fieldOf}
 use Rattle.number.proofs.FieldCodec.{both}

@@ -1,5 +1,5 @@
 -- A job without a fault takes no more bytes than its fields' widths come to. Assumes nothing.
-use Prim.Native.Nat.{ℕ, zero, suc, _+_, _*_, _^_, _≤_, _<_}
+use Prim.Native.Nat.{ℕ, suc, _+_, _*_, _^_, _≤_, _<_}
 use mathlib.Core.Path.{_≡_}
 use mathlib.Core.List.{List, [], _∷_, _++_}
 use mathlib.Core.Bool.{Bool, true, _&&_}
@@ -12,19 +12,19 @@ use borrow.Author.Tests.{leb-true}
 use Rattle.number.specs.Read.{writeMany}
 use Rattle.number.specs.Number.{writeNumber}
 use Rattle.number.specs.Signed.{fieldOf, writeSigned}
-use Rattle.number.proofs.FieldCodec.{both, within-most, sized-most, field-size}
+use Rattle.number.proofs.FieldCodec.{both, within-most, field-size}
 use Rattle.number.proofs.Widths.{number-width, many-width}
-use Rattle.job.specs.Allowed.{unitCountAllowed, wheelbaseAllowed, hitchMost, hitchAllowed, foldAllowed, overhangAllowed, halfWidthAllowed, coordinateAllowed, headingAllowed, lengthAllowed, curveAllowed, unitAllowed, widthsAllowed, startAllowed, elementAllowed}
+use Rattle.job.specs.Allowed.{wheelbaseAllowed, hitchMost, hitchAllowed, foldAllowed, overhangAllowed, halfWidthAllowed, coordinateAllowed, headingAllowed, lengthAllowed, curveAllowed, unitAllowed, widthsAllowed, startAllowed, elementAllowed}
 use Rattle.job.specs.Curves.{radiusOf}
 use Rattle.job.specs.Steps.{tally}
-use Rattle.job.specs.Faults.{orFault, firstOf, faultOf, unitFault, unitsFault, elementFault, totalFault, elementsFault, judge}
+use Rattle.job.specs.Faults.{faultOf, unitFault, unitsFault, elementFault, totalFault, elementsFault, judge}
 use Rattle.job.specs.Empty.{emptyElement}
 use Rattle.job.specs.declared.Unit.{Unit as VehicleUnit}
 use Rattle.job.specs.declared.Vehicle.{Vehicle}
 use Rattle.job.specs.declared.Start.{Start}
 use Rattle.job.specs.declared.Element.{Element}
 use Rattle.job.specs.declared.Job.{Job}
-use Rattle.job.proofs.FaultLaws.{first-none, or-none, fault-at, Sound, sound, SoundVehicle, sound-vehicle}
+use Rattle.job.proofs.FaultLaws.{first-none, or-none, fault-at, sound, sound-vehicle}
 use Rattle.job.proofs.FieldLaws.{hitch-most, fold-size, heading-sizes, radius-size}
 use Rattle.job_writer.specs.Write.{writeUnit, writeWidths, writeVehicle, writeStart, writeElement, writePath, writeJob}
 use Rattle.job_writer.specs.Length.{unitWidth, widthsWidth, startWidth, elementWidth, longestRecord}

@@ -1,12 +1,11 @@
 -- Each part of a record, read back as it was written and written as it was read; what was read has no fault. Assumes nothing.
-use Prim.Native.Nat.{ℕ, zero, suc, _+_, _*_, _≤_, _<_, _^_}
+use Prim.Native.Nat.{ℕ, zero, suc, _≤_, _<_, _^_}
 use mathlib.Core.Path.{_≡_, refl, sym, _∙_, ap}
-use mathlib.Core.List.{List, [], _∷_, _++_}
+use mathlib.Core.List.{List}
 use mathlib.Core.Bool.{Bool, true, _&&_}
 use native.Mathlib.Omega.{arith}
 use lib.Dec.{leb}
 use lib.IntN.{ℤ, pos, negsuc, natAbs}
-use Rattle.number.specs.Read.{Reader}
 use Rattle.number.specs.Signed.{fieldOf}
 use Rattle.number.proofs.Codec.{Codec, bound, placed, lastly}
 use Rattle.number.proofs.FieldCodec.{recast, both, and, within-most, field-size, within-codec, sized-codec, signed-codec, signed-field-codec}

@@ -1,10 +1,10 @@
 -- A record is read within its first 750 bytes: five for each of its fields. Assumes nothing.
-use Prim.Native.Nat.{ℕ, zero, suc, _+_, _*_, _<_, _≤_}
-use mathlib.Core.Path.{_≡_, refl, sym, _∙_, ap}
+use Prim.Native.Nat.{ℕ, _+_, _*_, _<_, _≤_}
+use mathlib.Core.Path.{_≡_, refl, sym, ap}
 use mathlib.Core.List.{List, []}
 use mathlib.Core.Bool.{Bool, true, false}
 use native.Mathlib.Omega.{arith}
-use lib.ListN.{length, take, getD, length-take}
+use lib.ListN.{length, take, length-take}
 use lib.Seq.{getD-take, take-all}
 use lib.Dec.{eqb, leb}
 use borrow.Author.Tests.{ne-eqb, leb-true, leb-false}
@@ -18,7 +18,6 @@ use Rattle.job.specs.Empty.{emptyUnits, emptyElements}
 use Rattle.job.specs.declared.Unit.{Unit as VehicleUnit}
 use Rattle.job.specs.declared.Vehicle.{Vehicle}
 use Rattle.job.specs.declared.Start.{Start}
-use Rattle.job.specs.declared.Element.{Element}
 use Rattle.job.specs.declared.Job.{Job}
 use Rattle.job_reader.specs.Record.{readUnit, readUnitAt, readUnits, readWidths, readVehicle, readStart, readElement, readTotal, readElements, readPath, readRecord, readEnd, readJob}
 

@@ -1,28 +1,27 @@
 -- The units, the elements and the whole record, read back as they were written and written as they were read. Assumes nothing.
-use Prim.Native.Nat.{ℕ, zero, suc, _+_, _≤_, _<_}
-use mathlib.Core.Path.{_≡_, refl, sym, _∙_, ap, subst}
+use Prim.Native.Nat.{ℕ, zero, suc, _+_, _≤_}
+use mathlib.Core.Path.{_≡_, refl, sym, _∙_, ap}
 use mathlib.Core.List.{List, [], _∷_, _++_}
 use mathlib.Core.Bool.{Bool, true}
 use native.Mathlib.Omega.{arith}
 use lib.ListN.{length, take, length-take}
 use lib.Seq.{sets, length-sets}
 use lib.Dec.{eqb}
-use Rattle.number.specs.Read.{Reader, return, many, into, writeMany}
+use Rattle.number.specs.Read.{Reader, return, many, writeMany}
 use Rattle.number.proofs.Codec.{Codec, bound, placed, returned, tested, lastly, reworded}
 use Rattle.number.proofs.CodecMany.{Each, each, laid}
 use Rattle.number.proofs.FieldCodec.{recast, within-most, within-codec}
-use Rattle.job.specs.Allowed.{unitCountAllowed, unitAllowed, widthsAllowed, stepAllowed, elementCountAllowed, elementAllowed}
+use Rattle.job.specs.Allowed.{unitAllowed, stepAllowed, elementCountAllowed, elementAllowed}
 use Rattle.job.specs.Steps.{tally, stepsAllowed}
-use Rattle.job.specs.Faults.{orFault, firstOf, faultOf, unitFault, unitsFault, elementFault, totalFault, elementsFault, vehicleFault, judge}
+use Rattle.job.specs.Faults.{orFault, faultOf, unitFault, unitsFault, elementFault, totalFault, elementsFault, vehicleFault, judge}
 use Rattle.job.specs.Empty.{emptyUnits, emptyElements, cleared}
-use Rattle.job.specs.declared.Unit.{Unit as VehicleUnit}
 use Rattle.job.specs.declared.Vehicle.{Vehicle}
 use Rattle.job.specs.declared.Start.{Start}
 use Rattle.job.specs.declared.Element.{Element}
 use Rattle.job.specs.declared.Job.{Job}
 use Rattle.job.proofs.FaultLaws.{first-none, or-none, SoundVehicle, sound-vehicle, vehicle-sound, Sound, sound, job-sound}
-use Rattle.job_reader.specs.Record.{readUnitAt, readUnits, readWidths, readVehicle, readElement, readTotal, readElements, readPath, readRecord}
-use Rattle.job_writer.specs.Write.{writeUnit, writeWidths, writeVehicle, writeStart, writeElement, writePath, writeJob}
+use Rattle.job_reader.specs.Record.{readUnitAt, readUnits, readVehicle, readElement, readTotal, readElements, readPath, readRecord}
+use Rattle.job_writer.specs.Write.{writeUnit, writeWidths, writeVehicle, writeElement, writePath, writeJob}
 use Rattle.job_writer.proofs.PartCodecs.{unit, widths, start, element}
 
 -- a test that gives a fault where it fails

@@ -1,25 +1,23 @@
 -- A job has one encoding: what was written is read back, and what was read is written as it was. Assumes nothing.
-use Prim.Native.Nat.{ℕ, _+_, _≤_, _<_}
-use mathlib.Core.Path.{_≡_, refl, sym, _∙_, ap, subst}
+use Prim.Native.Nat.{ℕ, _+_, _≤_}
+use mathlib.Core.Path.{_≡_, refl, sym, _∙_, subst}
 use mathlib.Core.List.{List, [], _++_, append-nil}
-use mathlib.Core.Bool.{Bool, true, false}
 use native.Mathlib.Omega.{arith}
 use native.Mathlib.Nat.{zero-add}
 use lib.ListN.{length, take, drop, length-take, drop-of-length-le}
 use lib.Seq.{sets}
 use lib.Dec.{eqb}
 use borrow.Author.Tests.{eq-eqb, eqb-true}
-use Rattle.number.specs.Read.{Bytes, Read, got, refused, pick, writeMany}
-use Rattle.number.proofs.Codec.{Codec, first, chosen}
+use Rattle.number.specs.Read.{Bytes, got}
+use Rattle.number.proofs.Codec.{first, chosen}
 use Rattle.number.proofs.CodecMany.{take-sets}
 use Rattle.number.proofs.FieldCodec.{within-most}
-use Rattle.job.specs.Faults.{unitsFault, elementsFault, vehicleFault, judge}
+use Rattle.job.specs.Faults.{unitsFault, elementsFault, judge}
 use Rattle.job.specs.Empty.{emptyUnits, emptyElements, clearedVehicle, cleared}
-use Rattle.job.specs.declared.Vehicle.{Vehicle}
 use Rattle.job.specs.declared.Job.{Job}
 use Rattle.job.proofs.FaultLaws.{SoundVehicle, sound-vehicle, vehicle-sound, Sound, sound, job-sound}
 use Rattle.job_reader.specs.Record.{readRecord, readEnd, readJob}
-use Rattle.job_writer.specs.Write.{writeUnit, writeElement, writeJob}
+use Rattle.job_writer.specs.Write.{writeJob}
 use Rattle.job_writer.proofs.RecordCodec.{four, sixty-four, job}
 
 pub written-read : (j : Job) → judge j ≡ 0 → j ≡ cleared j → readJob (writeJob j) ≡ got j (length (writeJob j))

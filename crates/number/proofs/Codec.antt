@@ -1,14 +1,13 @@
 -- Reading what was written and writing what was read, for readers put together as the specification puts them together. Assumes nothing.
-use Prim.Native.Nat.{ℕ, zero, suc, _+_, _<_, _≤_}
+use Prim.Native.Nat.{ℕ, _+_}
 use mathlib.Core.Path.{_≡_, refl, sym, _∙_, ap, subst}
-use mathlib.Core.List.{List, [], _∷_, _++_, append-assoc}
+use mathlib.Core.List.{List, [], _++_, append-assoc}
 use mathlib.Core.Bool.{Bool, true, false}
 use native.Mathlib.Omega.{arith}
-use native.Mathlib.Nat.{add-zero, add-assoc}
-use native.Mathlib.Numerals.{add-one}
-use lib.ListN.{length, drop, getD, length-append}
+use native.Mathlib.Nat.{add-zero}
+use lib.ListN.{length, drop, length-append}
 use lib.Seq.{drop-drop, drop-append-seam}
-use Rattle.number.specs.Read.{Bytes, Read, got, refused, Reader, pick, andThen, _>>=_, return, here, unless, many}
+use Rattle.number.specs.Read.{Bytes, Read, got, refused, Reader, pick, andThen, _>>=_, return, here, unless}
 
 -- r reads what w writes, and what r reads w writes; ok is what a value that was read meets
 pub record Codec {A : Type 0} (r : Reader A) (w : A → List ℕ) (ok : A → Type 0) : Type 0 where

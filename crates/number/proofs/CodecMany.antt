@@ -1,9 +1,8 @@
 -- A number of values, one after the other, with a state that goes through them: the two directions. Assumes nothing.
-use Prim.Native.Nat.{ℕ, zero, suc, _+_, _<_, _≤_}
+use Prim.Native.Nat.{ℕ, zero, suc, _+_, _≤_}
 use mathlib.Core.Path.{_≡_, refl, sym, _∙_, ap, subst}
 use mathlib.Core.List.{List, [], _∷_, _++_, append-assoc}
 use native.Mathlib.Omega.{arith}
-use native.Mathlib.Nat.{add-zero}
 use lib.ListN.{length, drop, take, length-append}
 use lib.Seq.{sets, sets-eq, take-at}
 use Rattle.number.specs.Read.{Bytes, Read, got, refused, Reader, andThen, many, into, writeMany}

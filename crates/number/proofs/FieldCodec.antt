@@ -1,14 +1,13 @@
 -- A field that meets a test, the two directions; a test bounds what it lets through. Assumes nothing.
-use Prim.Native.Nat.{ℕ, suc, _+_, _*_, _<_, _≤_, _^_}
-use mathlib.Core.Path.{_≡_, refl, sym, _∙_, ap, subst}
-use mathlib.Core.List.{List, [], _∷_, _++_}
+use Prim.Native.Nat.{ℕ, _*_, _<_, _≤_, _^_}
+use mathlib.Core.Path.{_≡_, refl, sym}
+use mathlib.Core.List.{List}
 use mathlib.Core.Bool.{Bool, true, false, _&&_}
 use native.Mathlib.Omega.{arith}
-use lib.ListN.{length, drop}
 use lib.IntN.{ℤ, pos, negsuc, natAbs}
 use lib.Dec.{leb}
 use borrow.Author.Tests.{leb-true}
-use Rattle.number.specs.Read.{Bytes, Read, got, Reader}
+use Rattle.number.specs.Read.{Reader}
 use Rattle.number.specs.Number.{writeNumber}
 use Rattle.number.specs.Signed.{fieldOf, signedOf, writeSigned}
 use Rattle.number.specs.Field.{within, sizeAtMost, field, signedNumber, signedField}

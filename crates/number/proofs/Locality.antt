@@ -1,7 +1,7 @@
 -- How far a reader looks: two inputs that agree so far read alike. Assumes nothing.
 use Prim.Native.Nat.{ℕ, zero, suc, _+_, _*_, _%_, _<_, _≤_}
 use mathlib.Core.Path.{_≡_, refl, sym, _∙_, ap}
-use mathlib.Core.List.{List, [], _∷_}
+use mathlib.Core.List.{List, _∷_}
 use mathlib.Core.Bool.{Bool, true, false}
 use native.Mathlib.Omega.{arith}
 use lib.ListN.{length, getD}
@@ -13,7 +13,6 @@ use Rattle.number.specs.Number.{onto, groups, below32, readNumber}
 use Rattle.number.specs.Signed.{signedOf}
 use Rattle.number.specs.Field.{field, signedNumber, signedField}
 use Rattle.number.proofs.Codec.{first, chosen}
-use Rattle.number.proofs.GroupLaws.{pick-by}
 
 -- the first m bytes are there and are the same
 pub record Agree (m : ℕ) (s t : List ℕ) : Type 0 where

@@ -1,11 +1,11 @@
 -- A loop that reads values into an array: one turn, a refusal, and the end. Assumes nothing.
-use Prim.Native.Nat.{ℕ, zero, suc, _+_, _-_, _<_, _≤_}
-use mathlib.Core.Path.{_≡_, refl, sym, _∙_, ap}
+use Prim.Native.Nat.{ℕ, suc, _+_, _-_, _<_, _≤_}
+use mathlib.Core.Path.{_≡_, refl}
 use mathlib.Core.List.{List, [], _∷_, _++_}
 use native.Mathlib.Omega.{arith}
 use native.Mathlib.Numerals.{add-one}
 use lib.ListN.{length, set, take, drop, getD, length-take, drop-of-length-le}
-use lib.Seq.{sets, drop-cons, getD-take}
+use lib.Seq.{drop-cons, getD-take}
 use Rattle.number.specs.Read.{Read, got, refused, Reader, andThen, many, into, writeMany}
 
 -- a count that goes down as an index goes up

@@ -1,16 +1,16 @@
 -- A number: the two directions. Assumes nothing.
 use Prim.Native.Nat.{ℕ, zero, suc, _+_, _-_, _*_, _^_, _%_, _/_, _<_, _≤_}
-use mathlib.Core.Path.{_≡_, refl, sym, _∙_, ap, subst}
+use mathlib.Core.Path.{_≡_, refl, sym, _∙_, ap}
 use mathlib.Core.List.{List, [], _∷_, _++_}
 use mathlib.Core.Bool.{Bool, true, false}
 use native.Mathlib.Omega.{arith}
 use native.Mathlib.Numerals.{add-one}
 use native.Mathlib.Nat.{pow-suc, pow-le-pow-right}
 use lib.ListN.{length, drop, getD, length-drop}
-use lib.Seq.{drop-drop, drop-cons, getD-drop}
+use lib.Seq.{drop-cons}
 use lib.Dec.{ltb}
 use borrow.Author.Tests.{lt-ltb, le-ltb, ltb-true, ltb-false}
-use Rattle.number.specs.Read.{Bytes, Read, got, refused, Reader, pick}
+use Rattle.number.specs.Read.{Bytes, Read, got, refused, pick}
 use Rattle.number.specs.Number.{onto, groups, below32, readNumber, writeGroups, writeNumber}
 use Rattle.number.proofs.GroupLaws.{at-last, at-more, onto-pos}
 use Rattle.number.proofs.Codec.{Codec}

@@ -1,8 +1,8 @@
 -- Worked numbers (01, "Rigs to try"): D0 86 03 is 50,000; 81 00 is refused by 2; the signed byte 01 is −1. Assumes nothing.
 use mathlib.Core.Path.{_≡_, refl}
-use mathlib.Core.List.{List, [], _∷_}
-use lib.IntN.{ℤ, pos, negsuc}
-use Rattle.number.specs.Read.{Read, got, refused}
+use mathlib.Core.List.{[], _∷_}
+use lib.IntN.{negsuc}
+use Rattle.number.specs.Read.{got, refused}
 use Rattle.number.specs.Number.{groups, readNumber}
 use Rattle.number.specs.Field.{signedNumber}
 

@@ -1,5 +1,5 @@
 -- What the inner functions require can be met. Assumes nothing.
-use mathlib.Core.List.{List, [], _∷_}
+use mathlib.Core.List.{[], _∷_}
 use native.Mathlib.Omega.{arith}
 use Rattle.number.specs.Inner.{GroupsLeft, Room}
 

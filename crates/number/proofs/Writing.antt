@@ -1,12 +1,12 @@
 -- Bytes written into a run one part after another: what is left to write, from the first part to the last. Assumes nothing.
-use Prim.Native.Nat.{ℕ, zero, suc, _+_, _*_, _^_, _%_, _/_, _<_, _≤_}
+use Prim.Native.Nat.{ℕ, zero, suc, _+_, _^_, _%_, _/_, _<_, _≤_}
 use mathlib.Core.Path.{_≡_, refl, sym, _∙_, ap}
 use mathlib.Core.List.{List, [], _∷_, _++_}
 use native.Mathlib.Omega.{arith}
 use native.Mathlib.Numerals.{add-one}
 use native.Mathlib.Nat.{pow-suc, add-zero}
-use lib.ListN.{length, set, length-set, length-append}
-use lib.Seq.{sets, length-sets}
+use lib.ListN.{length, set, length-set}
+use lib.Seq.{sets}
 use lib.Dec.{ltb}
 use borrow.Author.Tests.{le-ltb}
 use Rattle.number.specs.Number.{writeGroups, writeNumber}

@@ -3,7 +3,7 @@ use Prim.Native.Nat.{ℕ}
 use mathlib.Core.Bool.{Bool, _&&_}
 use lib.Dec.{leb}
 use lib.IntN.{ℤ, natAbs}
-use Rattle.number.specs.Read.{Read, Reader, _>>=_, return, here, unless}
+use Rattle.number.specs.Read.{Reader, _>>=_, return, here, unless}
 use Rattle.number.specs.Number.{readNumber}
 use Rattle.number.specs.Signed.{signedOf}
 use Rattle.number.specs.declared.Range.{Range}

@@ -49,31 +49,37 @@ pub struct Refusal {
 pub fn number_refusal(a: Number) -> Refusal
     ensures { λ r. ⌜ r ≡ refusalOf (asNumber a) ⌝ }
 {
-    match a {
-        Number::Value(_, _) => Refusal {
+    let Number::Refused(number, place) = a else {
+        return Refusal {
             number: 0,
             place: 0,
-        },
-        Number::Refused(n, p) => Refusal {
-            number: n,
-            place: p,
-        },
-    }
+        };
+    };
+    Refusal { number, place }
 }
 
 pub fn signed_refusal(a: Signed) -> Refusal
     ensures { λ r. ⌜ r ≡ refusalOf (asSigned a) ⌝ }
 {
-    match a {
-        Signed::Value(_, _) => Refusal {
+    let Signed::Refused(number, place) = a else {
+        return Refusal {
             number: 0,
             place: 0,
-        },
-        Signed::Refused(n, p) => Refusal {
-            number: n,
-            place: p,
-        },
-    }
+        };
+    };
+    Refusal { number, place }
+}
+
+fn groups_refusal(a: Groups) -> Refusal
+    ensures { λ r. ⌜ r ≡ refusalOf (asGroups a) ⌝ }
+{
+    let Groups::Refused(number, place) = a else {
+        return Refusal {
+            number: 0,
+            place: 0,
+        };
+    };
+    Refusal { number, place }
 }
 
 // At most `left` groups of the field that starts at `from`.
@@ -107,16 +113,14 @@ pub fn read(s: &[u8], c: Cursor) -> Number
 {
     let at = c.at;
     let g = read_groups(s, at, at, 5);
-    match g {
-        Groups::Whole(v, next) => {
-            if v < 4294967296 {
-                Number::Value(v as u32, Cursor { at: next })
-            } else {
-                Number::Refused(2, at)
-            }
-        }
-        Groups::Refused(n, p) => Number::Refused(n, p),
+    let Groups::Whole(v, next) = g else {
+        let w = groups_refusal(g);
+        return Number::Refused(w.number, w.place);
+    };
+    if v < 4294967296 {
+        return Number::Value(v as u32, Cursor { at: next });
     }
+    Number::Refused(2, at)
 }
 
 // A number in a range, else refused by the fault's number.

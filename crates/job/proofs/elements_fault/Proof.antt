@@ -1,7 +1,8 @@
+-- `job::elements_fault` meets its contract. Assumes nothing.
 use Prim.Native.Nat.{ℕ, _+_, _-_, _*_, _≤_}
 use native.Mathlib.Omega.{arith}
 use borrow.Author.Needs.{needs}
-use mathlib.Core.Path.{_≡_, _∙_, sym, ap, refl}
+use mathlib.Core.Path.{_≡_, _∙_, sym, refl}
 use mathlib.Core.List.{List}
 use lib.ListN.{length, take, drop, getD}
 use Rattle.job.specs.Steps.{tally}
@@ -12,11 +13,6 @@ use Rattle.job.proofs.FaultLaws.{fault-next, fault-end}
 use Rattle.job.proofs.StepLaws.{tally-most}
 use Rattle.job.proofs.elements_fault.Statement.{statement}
 use Rattle.job.proofs.elements_fault.Tie as tie
-use Rattle.job.proofs.elements_fault.Reads as reads
-use Rattle.job.proofs.elements_fault.Lts as lts
-use Rattle.job.proofs.element_allowed.Reads as element-allowed-reads
-use Rattle.job.proofs.steps_allowed.Reads as steps-allowed-reads
-use Rattle.job.proofs.tally_element.Reads as tally-element-reads
 
 -- the fault of the elements from i on, with the steps of those before them
 abbrev left : ℕ → ℕ → List Element → ℕ → ℕ → ℕ
@@ -49,36 +45,28 @@ done c =
     let a = c .before .before .before .args in
     sym (fault-end elementFault (tally (a .step)) totalFault (a .t1) (a .count) (l .i) (l .total) (c .before .loop-test .left)) ∙ l .inv .3
 
--- src/lib.rt:175:5
 loop-holds : tie.Need-loop-holds Inv-loop μ-loop
 loop-holds c = (omega arith, search needs, omega arith, refl)
 
--- src/lib.rt:176:17
 mul-e : tie.Need-mul-e Inv-loop μ-loop
 mul-e c = search needs
 
--- src/lib.rt:176:17
 array-copy-out-e : tie.Need-array-copy-out-e Inv-loop μ-loop
 array-copy-out-e c = omega (arith, c .before .before .pre .most)
 
--- src/lib.rt:177:12
 element-allowed-requires : tie.Need-element-allowed-requires Inv-loop μ-loop
 element-allowed-requires c κs = search needs
 
--- src/lib.rt:178:13
 tally-element-requires : tie.Need-tally-element-requires Inv-loop μ-loop
 tally-element-requires c κs = let l = c .before .before .before .before in
     record { positive = l .before .pre .positive; room = omega (arith, l .loop .inv .2, l .before .pre .most, c .before .before .before .loop-test .taken) }
 
--- src/lib.rt:179:13
 add-i : tie.Need-add-i Inv-loop μ-loop
 add-i c = search needs
 
--- src/lib.rt:175:5
 loop-less : tie.Need-loop-less Inv-loop μ-loop
 loop-less c = search needs
 
--- src/lib.rt:175:5
 loop-again : tie.Need-loop-again Inv-loop μ-loop
 loop-again c = let q = c .before .before in
     let l = q .before .before .before in
@@ -91,21 +79,17 @@ loop-again c = let q = c .before .before in
       rw t (rw (c .before .if1 .taken) at (turn q)),
     )
 
--- src/lib.rt:181:13
 returns : tie.Need-returns Inv-loop μ-loop
 unfolding elementsFault
 returns c = rw (c .if1 .left) at (turn (c .before))
 
--- src/lib.rt:184:8
 steps-allowed-requires : tie.Need-steps-allowed-requires Inv-loop μ-loop
 steps-allowed-requires c κs = search needs
 
--- src/lib.rt:169:1
 returns-2 : tie.Need-returns-2 Inv-loop μ-loop
 unfolding elementsFault
 returns-2 c = rw (sym (c .before .steps-allowed .ensures) ∙ c .if2 .taken) at (done (c .before))
 
--- src/lib.rt:169:1
 returns-3 : tie.Need-returns-3 Inv-loop μ-loop
 unfolding elementsFault
 returns-3 c = rw (sym (c .before .steps-allowed .ensures) ∙ c .if2 .left) at (done (c .before))

@@ -1,11 +1,9 @@
+-- `job::empty_units` meets its contract. Assumes nothing.
 use mathlib.Core.Path.{refl}
 use Rattle.job.specs.Empty.{emptyUnits}
 use Rattle.job.proofs.empty_units.Statement.{statement}
 use Rattle.job.proofs.empty_units.Tie as tie
-use Rattle.job.proofs.empty_units.Reads as reads
-use Rattle.job.proofs.empty_units.Lts as lts
 
--- src/lib.rt:234:1
 returns : tie.Need-returns
 unfolding emptyUnits
 returns c = refl

@@ -1,23 +1,18 @@
+-- `job::fold_allowed` meets its contract. Assumes nothing.
 use mathlib.Core.Path.{_∙_, ap}
 use lib.IntN.{natAbs}
 use Rattle.number.proofs.SignedLaws.{kept}
 use borrow.Author.Needs.{needs}
 use Rattle.job.proofs.fold_allowed.Statement.{statement}
 use Rattle.job.proofs.fold_allowed.Tie as tie
-use Rattle.job.proofs.fold_allowed.Reads as reads
-use Rattle.job.proofs.fold_allowed.Lts as lts
-use Rattle.number.proofs.size_of.Reads as size-of-reads
 
--- src/lib.rt:79:16
 size-of-requires : tie.Need-size-of-requires
 size-of-requires c κs = search needs
 
--- src/lib.rt:79:9
 returns : tie.Need-returns
 returns c = let s = c .before .before in
     rw (c .before .if1 .taken, c .size-of .ensures ∙ ap natAbs (kept (s .args .fold) (s .fits .fold)))
 
--- src/lib.rt:75:1
 returns-2 : tie.Need-returns-2
 returns-2 c = rw (c .if1 .left, kept (c .before .args .fold) (c .before .fits .fold))
 

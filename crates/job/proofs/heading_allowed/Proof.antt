@@ -1,26 +1,20 @@
+-- `job::heading_allowed` meets its contract. Assumes nothing.
 use Rattle.number.proofs.SignedLaws.{kept}
 use Rattle.job.specs.Allowed.{headingAllowed}
 use Rattle.job.proofs.Wide.{wide, wide-fits}
 use borrow.Author.Needs.{needs}
 use Rattle.job.proofs.heading_allowed.Statement.{statement}
 use Rattle.job.proofs.heading_allowed.Tie as tie
-use Rattle.job.proofs.heading_allowed.Reads as reads
-use Rattle.job.proofs.heading_allowed.Lts as lts
-use Rattle.plane.proofs.has_length.Reads as has-length-reads
 
--- src/lib.rt:87:13
 cast-x : tie.Need-cast-x
 cast-x c = rw (kept (c .args .gx) (c .fits .gx)) (wide-fits (c .args .gx) (c .fits .gx))
 
--- src/lib.rt:88:13
 cast-y : tie.Need-cast-y
 cast-y c = rw (kept (c .args .gy) (c .fits .gy)) (wide-fits (c .args .gy) (c .fits .gy))
 
--- src/lib.rt:89:5
 has-length-requires : tie.Need-has-length-requires
 has-length-requires c κs = search needs
 
--- src/lib.rt:84:1
 returns : tie.Need-returns
 unfolding headingAllowed
 returns c = let s = c .before in

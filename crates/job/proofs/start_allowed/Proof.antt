@@ -1,27 +1,20 @@
+-- `job::start_allowed` meets its contract. Assumes nothing.
 use mathlib.Core.Path.{_≡_}
 use mir.Syntax.{w32}
 use mir.Val.{toZ, ofZ}
 use borrow.Author.Needs.{needs}
 use Rattle.job.proofs.start_allowed.Statement.{statement}
 use Rattle.job.proofs.start_allowed.Tie as tie
-use Rattle.job.proofs.start_allowed.Reads as reads
-use Rattle.job.proofs.start_allowed.Lts as lts
-use Rattle.job.proofs.heading_allowed.Reads as heading-allowed-reads
-use Rattle.number.proofs.size_of.Reads as size-of-reads
 
--- src/lib.rt:126:6
 size-of-requires : tie.Need-size-of-requires
 size-of-requires c κs = search needs
 
--- src/lib.rt:127:13
 size-of-requires-2 : tie.Need-size-of-requires-2
 size-of-requires-2 c κs = search needs
 
--- src/lib.rt:127:49
 heading-allowed-requires : tie.Need-heading-allowed-requires
 heading-allowed-requires c κs = search needs
 
--- src/lib.rt:119:1
 returns : tie.Need-returns
 returns c = let s = c .before .before .before .before .before .before .before .args .s in
     let x : toZ w32 (ofZ w32 (s .x)) ≡ s .x = search needs in

@@ -1,42 +1,34 @@
+-- `job::tally_element` meets its contract. Assumes nothing.
 use native.Mathlib.Omega.{arith}
-use Prim.Native.Nat.{_≤_, _<_, _/_, _^_}
+use Prim.Native.Nat.{_<_, _/_, _^_}
 use native.Mathlib.Nat.{div-le-self}
 use borrow.Author.Tests.{eq-eqb, ne-eqb}
 use borrow.Author.Needs.{needs}
 use Rattle.job.proofs.tally_element.Statement.{statement}
 use Rattle.job.proofs.tally_element.Tie as tie
-use Rattle.job.proofs.tally_element.Reads as reads
-use Rattle.job.proofs.tally_element.Lts as lts
 
 -- what one element adds has 32 bits
 quotient : (c : tie.Start) → c .args .e .length / c .args .step < 2 ^ 32
 quotient c = omega (arith, div-le-self (c .args .e .length) (c .args .step))
 
--- src/lib.rt:143:25
 div-full : tie.Need-div-full
 div-full c = search needs
 
--- src/lib.rt:143:24
 cast-full : tie.Need-cast-full
 cast-full c = record { fits = omega (arith, quotient c) }
 
--- src/lib.rt:143:16
 add-full : tie.Need-add-full
 add-full c = record { fits = omega (arith, quotient c, c .pre .room) }
 
--- src/lib.rt:144:8
 rem-if1 : tie.Need-rem-if1
 rem-if1 c = search needs
 
--- src/lib.rt:144:43
 add-result : tie.Need-add-result
 add-result c = record { fits = omega (arith, quotient (c .before), c .before .pre .room) }
 
--- src/lib.rt:138:1
 returns : tie.Need-returns
 returns c = rw (eq-eqb _ _ (c .if1 .taken)) (omega arith)
 
--- src/lib.rt:138:1
 returns-2 : tie.Need-returns-2
 returns-2 c = rw (ne-eqb _ _ (c .if1 .left)) (omega arith)
 

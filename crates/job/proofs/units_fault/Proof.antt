@@ -1,20 +1,16 @@
+-- `job::units_fault` meets its contract. Assumes nothing.
 use Prim.Native.Nat.{ℕ, _+_, _-_, _≤_}
 use native.Mathlib.Omega.{arith}
 use borrow.Author.Needs.{needs}
-use mathlib.Core.Path.{_≡_, _∙_, sym, ap, refl}
+use mathlib.Core.Path.{_≡_, _∙_, sym, refl}
 use mathlib.Core.List.{List}
-use mathlib.Core.Bool.{Bool, true, false}
-use lib.ListN.{length, take, drop, getD}
-use lib.Dec.{eqb}
+use lib.ListN.{length, take, drop}
 use Rattle.job.specs.Faults.{firstOf, orFault, faultOf, unitFault, unitsFault}
 use Rattle.job.specs.Empty.{emptyUnit}
 use Rattle.job.specs.declared.Unit.{Unit as VehicleUnit}
 use Rattle.job.proofs.FaultLaws.{fault-next, fault-end}
 use Rattle.job.proofs.units_fault.Statement.{statement}
 use Rattle.job.proofs.units_fault.Tie as tie
-use Rattle.job.proofs.units_fault.Reads as reads
-use Rattle.job.proofs.units_fault.Lts as lts
-use Rattle.job.proofs.unit_allowed.Reads as unit-allowed-reads
 
 -- the fault of the units from i on
 abbrev left : ℕ → List VehicleUnit → ℕ → ℕ
@@ -37,44 +33,34 @@ turn c =
     let a = s .args in
     rw (c .unit-allowed .ensures) (sym (fault-next (unitFault (a .count)) (λ i u. i + 1) (λ i. 0) (a .t1) (a .count) (l .i) (l .i) emptyUnit (omega (arith, s .pre .most, l .inv .1)) (c .before .before .loop-test .taken)) ∙ l .inv .2)
 
--- src/lib.rt:158:5
 loop-holds : tie.Need-loop-holds Inv-loop μ-loop
 loop-holds c = (omega arith, search needs, refl)
 
--- src/lib.rt:159:17
 mul-u : tie.Need-mul-u Inv-loop μ-loop
 mul-u c = search needs
 
--- src/lib.rt:159:17
 array-copy-out-u : tie.Need-array-copy-out-u Inv-loop μ-loop
 array-copy-out-u c = omega (arith, c .before .before .pre .most)
 
--- src/lib.rt:160:33
 add-unit-allowed : tie.Need-add-unit-allowed Inv-loop μ-loop
 add-unit-allowed c = search needs
 
--- src/lib.rt:160:12
 unit-allowed-requires : tie.Need-unit-allowed-requires Inv-loop μ-loop
 unit-allowed-requires c κs = search needs
 
--- src/lib.rt:161:13
 add-i : tie.Need-add-i Inv-loop μ-loop
 add-i c = search needs
 
--- src/lib.rt:158:5
 loop-less : tie.Need-loop-less Inv-loop μ-loop
 loop-less c = search needs
 
--- src/lib.rt:158:5
 loop-again : tie.Need-loop-again Inv-loop μ-loop
 loop-again c = (omega arith, c .before .before .before .before .loop .inv .1, rw (c .if1 .taken) at (turn (c .before)))
 
--- src/lib.rt:163:13
 returns : tie.Need-returns Inv-loop μ-loop
 unfolding unitsFault
 returns c = rw (c .if1 .left) at (turn (c .before))
 
--- src/lib.rt:153:1
 returns-2 : tie.Need-returns-2 Inv-loop μ-loop
 unfolding unitsFault
 returns-2 c = let l = c .before .loop in

@@ -1,4 +1,4 @@
-use native.Mathlib.Omega.{arith}
+-- `job::vehicle_fault` meets its contract. Assumes nothing.
 use mathlib.Core.Path.{_≡_, _∙_, sym}
 use mathlib.Core.Bool.{true}
 use borrow.Author.Tests.{not-true, not-false}
@@ -9,45 +9,33 @@ use Rattle.job.proofs.FaultLaws.{first-of}
 use borrow.Author.Needs.{needs}
 use Rattle.job.proofs.vehicle_fault.Statement.{statement}
 use Rattle.job.proofs.vehicle_fault.Tie as tie
-use Rattle.job.proofs.vehicle_fault.Reads as reads
-use Rattle.job.proofs.vehicle_fault.Lts as lts
-use Rattle.job.proofs.is_within_count.Reads as is-within-count-reads
-use Rattle.job.proofs.units_fault.Reads as units-fault-reads
-use Rattle.job.proofs.widths_allowed.Reads as widths-allowed-reads
 
 counted : (c : tie.Else1) → unitCountAllowed (c .before .before .args .v .count) ≡ true
 counted c = sym (c .before .is-within-count .ensures) ∙ not-false _ (c .if1 .left)
 
--- src/lib.rt:192:9
 is-within-count-requires : tie.Need-is-within-count-requires
 is-within-count-requires c κs = search needs
 
--- src/lib.rt:193:9
 returns : tie.Need-returns
 unfolding vehicleFault
 returns c = rw (sym (c .before .is-within-count .ensures) ∙ not-true _ (c .if1 .taken))
 
--- src/lib.rt:196:9
 units-fault-requires : tie.Need-units-fault-requires
 units-fault-requires c κs = record { most = within-most (record { least = 1; most = 4 }) _ (counted (c .before)) }
 
--- src/lib.rt:198:9
 returns-2 : tie.Need-returns-2
 unfolding vehicleFault
 returns-2 c = let f = c .before in
     rw (counted (f .before .before), ← f .units-fault .ensures) (sym (first-of _ _ (c .if2 .taken)))
 
--- src/lib.rt:200:8
 widths-allowed-requires : tie.Need-widths-allowed-requires
 widths-allowed-requires c κs = search needs
 
--- src/lib.rt:188:1
 returns-3 : tie.Need-returns-3
 unfolding vehicleFault
 returns-3 c = let f = c .before .before .before in
     rw (counted (f .before .before), ← f .units-fault .ensures, c .before .before .if2 .left, sym (c .before .widths-allowed .ensures) ∙ c .if3 .taken)
 
--- src/lib.rt:188:1
 returns-4 : tie.Need-returns-4
 unfolding vehicleFault
 returns-4 c = let f = c .before .before .before in

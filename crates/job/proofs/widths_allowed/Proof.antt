@@ -1,23 +1,17 @@
+-- `job::widths_allowed` meets its contract. Assumes nothing.
 use borrow.Author.Needs.{needs}
 use Rattle.job.proofs.widths_allowed.Statement.{statement}
 use Rattle.job.proofs.widths_allowed.Tie as tie
-use Rattle.job.proofs.widths_allowed.Reads as reads
-use Rattle.job.proofs.widths_allowed.Lts as lts
-use Rattle.number.proofs.is_within.Reads as is-within-reads
 
--- src/lib.rt:114:5
 is-within-requires : tie.Need-is-within-requires
 is-within-requires c κs = search needs
 
--- src/lib.rt:115:12
 is-within-requires-2 : tie.Need-is-within-requires-2
 is-within-requires-2 c κs = search needs
 
--- src/lib.rt:116:15
 is-within-requires-3 : tie.Need-is-within-requires-3
 is-within-requires-3 c κs = search needs
 
--- src/lib.rt:111:1
 returns : tie.Need-returns
 returns c = rw (c .before .before .is-within .ensures, c .before .is-within2 .ensures, c .is-within3 .ensures)
 

@@ -1,24 +1,19 @@
+-- `job_reader::passed_refusal` meets its contract. Assumes nothing.
 use borrow.Author.Needs.{needs}
 use Rattle.job_reader.proofs.passed_refusal.Statement.{statement}
 use Rattle.job_reader.proofs.passed_refusal.Tie as tie
-use Rattle.job_reader.proofs.passed_refusal.Reads as reads
-use Rattle.job_reader.proofs.passed_refusal.Lts as lts
 
--- src/lib.rt:73:26
-enum-told : tie.Need-enum-told
-enum-told c = search needs
-
--- src/lib.rt:77:25
 enum-known-a : tie.Need-enum-known-a
 enum-known-a c = search needs
 
--- src/lib.rt:69:1
+enum-told : tie.Need-enum-told
+enum-told c = search needs
+
 returns : tie.Need-returns
 returns c = rw (c .enum-told .given .1)
 
--- src/lib.rt:69:1
 returns-2 : tie.Need-returns-2
 returns-2 c = rw (c .before .a .given .1)
 
 pub passed-refusal-spec : {M : Type 1} → statement M
-passed-refusal-spec = tie.close (tie.spec enum-told enum-known-a returns returns-2)
+passed-refusal-spec = tie.close (tie.spec enum-known-a enum-told returns returns-2)

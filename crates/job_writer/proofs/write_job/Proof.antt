@@ -1,7 +1,8 @@
-use Prim.Native.Nat.{ℕ, _+_, _≤_, _<_}
+-- `job_writer::write_job` meets its contract. Assumes nothing.
+use Prim.Native.Nat.{_≤_, _<_}
 use native.Mathlib.Omega.{arith}
 use borrow.Author.Tests.{le-leb, lt-leb}
-use mathlib.Core.Path.{_≡_, _∙_, sym, ap}
+use mathlib.Core.Path.{_≡_, _∙_, sym}
 use lib.ListN.{length}
 use denote.Ref.{now}
 use Rattle.job.specs.Faults.{judge}
@@ -13,11 +14,6 @@ use Rattle.job_writer.proofs.LengthLaws.{record-length}
 use borrow.Author.Needs.{needs}
 use Rattle.job_writer.proofs.write_job.Statement.{statement}
 use Rattle.job_writer.proofs.write_job.Tie as tie
-use Rattle.job_writer.proofs.write_job.Reads as reads
-use Rattle.job_writer.proofs.write_job.Lts as lts
-use Rattle.job.proofs.judge.Reads as judge-reads
-use Rattle.job_writer.proofs.copy_bytes.Reads as copy-bytes-reads
-use Rattle.job_writer.proofs.encode.encode_job.Reads as encode-job-reads
 
 four : (c : tie.Start) → length (c .args .j .vehicle .units) ≡ 4
 four c = search (needs, unmapped)
@@ -34,36 +30,29 @@ count c = encoded-count (c .encode-job .result) (writeJob (c .before .before .be
 short : (c : tie.After-encode-job) → length (writeJob (c .before .before .before .before .args .j)) ≤ 520
 short c = omega (arith, record-length (c .before .before .before .before .args .j) (judged (c .before)))
 
--- src/lib.rt:39:9
 judge-requires : tie.Need-judge-requires
 judge-requires c κs = search needs
 
--- src/lib.rt:41:9
 returns : tie.Need-returns
 returns c = let s = (c .before .before .before) in
     refuses (s .args .j) _ (four s) (sixty-four s) _ (rw (← c .before .judge .ensures) (first-of _ _ (c .if1 .taken))) (c .if1 .taken)
 
--- src/lib.rt:43:9
 encode-job-requires : tie.Need-encode-job-requires
 encode-job-requires c κs = search needs
 
--- src/lib.rt:46:9
 returns-2 : tie.Need-returns-2
 returns-2 c = let s = (c .before .before .before .before .before) in
     let e = (c .before) in
     let l : length (now (s .args .run)) < length (writeJob (s .args .j)) = omega (arith, count e, c .if2 .taken) in
     refuses (s .args .j) _ (four s) (sixty-four s) 28 (rw (judged (c .before .before), lt-leb _ _ l)) (λ z. omega arith)
 
--- src/lib.rt:49:5
 copy-bytes-requires : tie.Need-copy-bytes-requires
 copy-bytes-requires c κs = let e = (c .before .before .before) in
     record { most = omega (arith, count e, short e); fits = c .before .before .if2 .left }
 
--- src/lib.rt:36:1
 same-length : tie.Need-same-length
 same-length c = search needs
 
--- src/lib.rt:36:1
 returns-3 : tie.Need-returns-3
 returns-3 c = let s = (c .before .before .before .before .before .before .before .before .before .before) in
     let e = (c .before .before .before .before .before .before) in

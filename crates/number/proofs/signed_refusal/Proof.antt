@@ -1,24 +1,19 @@
+-- `number::signed_refusal` meets its contract. Assumes nothing.
 use borrow.Author.Needs.{needs}
 use Rattle.number.proofs.signed_refusal.Statement.{statement}
 use Rattle.number.proofs.signed_refusal.Tie as tie
-use Rattle.number.proofs.signed_refusal.Reads as reads
-use Rattle.number.proofs.signed_refusal.Lts as lts
 
--- src/lib.rt:68:32
-enum-told : tie.Need-enum-told
-enum-told c = search needs
-
--- src/lib.rt:72:25
 enum-known-a : tie.Need-enum-known-a
 enum-known-a c = search needs
 
--- src/lib.rt:64:1
+enum-told : tie.Need-enum-told
+enum-told c = search needs
+
 returns : tie.Need-returns
 returns c = rw (c .enum-told .given .1)
 
--- src/lib.rt:64:1
 returns-2 : tie.Need-returns-2
 returns-2 c = rw (c .before .a .given .1)
 
 pub signed-refusal-spec : {M : Type 1} → statement M
-signed-refusal-spec = tie.close (tie.spec enum-told enum-known-a returns returns-2)
+signed-refusal-spec = tie.close (tie.spec enum-known-a enum-told returns returns-2)

@@ -1,22 +1,17 @@
+-- `number::size_of` meets its contract. Assumes nothing.
 use mathlib.Core.Path.{ap, _∙_}
 use Rattle.number.specs.Signed.{fieldOf}
 use Rattle.number.proofs.SignedLaws.{kept, size-is}
 use borrow.Author.Needs.{needs}
 use Rattle.number.proofs.size_of.Statement.{statement}
 use Rattle.number.proofs.size_of.Tie as tie
-use Rattle.number.proofs.size_of.Reads as reads
-use Rattle.number.proofs.size_of.Lts as lts
-use Rattle.number.proofs.field_of.Reads as field-of-reads
 
--- src/lib.rt:166:9
 field-of-requires : tie.Need-field-of-requires
 field-of-requires c κs = search needs
 
--- src/lib.rt:167:5
 add-result : tie.Need-add-result
 add-result c = search needs
 
--- src/lib.rt:163:1
 returns : tie.Need-returns
 returns c = let z = c .before .args .z in
     rw (c .field-of .ensures ∙ ap fieldOf (kept z (c .before .fits .z)), size-is)

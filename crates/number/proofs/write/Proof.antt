@@ -1,11 +1,10 @@
+-- `number::write` meets its contract. Assumes nothing.
 use borrow.Author.Needs.{needs}
 use native.Mathlib.Omega.{arith}
 use lib.ListN.{length-set}
 use Rattle.number.proofs.Writing.{Left, start, turn, inside, last}
 use Rattle.number.proofs.write.Statement.{statement}
 use Rattle.number.proofs.write.Tie as tie
-use Rattle.number.proofs.write.Reads as reads
-use Rattle.number.proofs.write.Lts as lts
 
 abbrev Inv-loop : tie.InvT-loop
 Inv-loop run₀ at x i₀ y₀ run i y = Left run₀ at x run i y
@@ -13,51 +12,39 @@ Inv-loop run₀ at x i₀ y₀ run i y = Left run₀ at x run i y
 abbrev μ-loop : tie.MeasureT-loop
 μ-loop run₀ at x i₀ y₀ run i y = y
 
--- src/lib.rt:204:5
 loop-holds : tie.Need-loop-holds Inv-loop μ-loop
 loop-holds c = start _ _ _ (omega arith)
 
--- src/lib.rt:205:19
 add-run : tie.Need-add-run Inv-loop μ-loop
 add-run c = search needs
 
--- src/lib.rt:205:18
 cast-run : tie.Need-cast-run Inv-loop μ-loop
 cast-run c = search needs
 
--- src/lib.rt:205:9
 slice-write-run : tie.Need-slice-write-run Inv-loop μ-loop
 slice-write-run c = inside _ _ _ _ _ _ (c .before .before .pre .ends) (c .before .loop .inv)
 
--- src/lib.rt:207:9
 add-i : tie.Need-add-i Inv-loop μ-loop
 add-i c = search needs
 
--- src/lib.rt:204:5
 loop-less : tie.Need-loop-less Inv-loop μ-loop
 loop-less c = search needs
 
--- src/lib.rt:204:5
 loop-again : tie.Need-loop-again Inv-loop μ-loop
 loop-again c = turn _ _ _ _ _ _ (c .loop-test .taken) (c .before .loop .inv)
 
--- src/lib.rt:209:14
 cast-run-2 : tie.Need-cast-run-2 Inv-loop μ-loop
 cast-run-2 c = search needs
 
--- src/lib.rt:209:5
 slice-write-run-2 : tie.Need-slice-write-run-2 Inv-loop μ-loop
 slice-write-run-2 c = inside _ _ _ _ _ _ (c .before .before .pre .ends) (c .before .loop .inv)
 
--- src/lib.rt:210:5
 add-result : tie.Need-add-result Inv-loop μ-loop
 add-result c = search needs
 
--- src/lib.rt:198:1
 same-length : tie.Need-same-length Inv-loop μ-loop
 same-length c = simp length-set (c .before .loop .inv .pending .long)
 
--- src/lib.rt:198:1
 returns : tie.Need-returns Inv-loop μ-loop
 returns c = last _ _ _ _ _ _ (c .loop-test .left) (c .before .loop .inv)
 

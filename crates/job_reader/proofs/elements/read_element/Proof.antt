@@ -1,3 +1,4 @@
+-- `job_reader::elements::read_element` meets its contract. Assumes nothing.
 use mathlib.Core.Path.{_≡_, _∙_, ap}
 use mir.Syntax.{w32}
 use mir.Val.{toZ, ofZ}
@@ -6,74 +7,52 @@ use Rattle.job_reader.specs.Record.{readElement}
 use borrow.Author.Needs.{needs}
 use Rattle.job_reader.proofs.elements.read_element.Statement.{statement}
 use Rattle.job_reader.proofs.elements.read_element.Tie as tie
-use Rattle.job_reader.proofs.elements.read_element.Reads as reads
-use Rattle.job_reader.proofs.elements.read_element.Lts as lts
-use Rattle.job_reader.proofs.elements.curve_of.Reads as curve-of-reads
-use Rattle.job_reader.proofs.elements.read_radius.Reads as read-radius-reads
-use Rattle.job_reader.proofs.elements.refused_element.Reads as refused-element-reads
-use Rattle.number.proofs.number_refusal.Reads as number-refusal-reads
-use Rattle.number.proofs.read_within.Reads as read-within-reads
-use Rattle.number.proofs.signed_refusal.Reads as signed-refusal-reads
 
 -- the signed radius is read back from its bits as it was
 radius : (c : tie.After-known-told2) → toZ w32 (ofZ w32 (c .before .b .given .0 .0)) ≡ c .before .b .given .0 .0
 radius c = search needs
 
--- src/elements.rt:114:9
 read-within-requires : tie.Need-read-within-requires
 read-within-requires c κs = search needs
 
--- src/elements.rt:115:23
 enum-known-a : tie.Need-enum-known-a
 enum-known-a c = search needs
 
--- src/elements.rt:116:32
 enum-told : tie.Need-enum-told
 enum-told c = search needs
 
--- src/elements.rt:116:32
 number-refusal-requires : tie.Need-number-refusal-requires
 number-refusal-requires c κs = search needs
 
--- src/elements.rt:116:9
 refused-element-requires : tie.Need-refused-element-requires
 refused-element-requires c κs = search needs
 
--- src/elements.rt:116:9
 returns : tie.Need-returns
 unfolding readElement
 returns c = rw (c .refused-element .ensures, c .before .number-refusal .ensures, ← c .before .before .before .before .read-within .ensures, c .before .before .enum-told .given .1)
 
--- src/elements.rt:118:9
 read-radius-requires : tie.Need-read-radius-requires
 read-radius-requires c κs = search needs
 
--- src/elements.rt:119:23
 enum-known-b : tie.Need-enum-known-b
 enum-known-b c = search needs
 
--- src/elements.rt:120:32
 enum-told-2 : tie.Need-enum-told-2
 enum-told-2 c = search needs
 
--- src/elements.rt:120:32
 signed-refusal-requires : tie.Need-signed-refusal-requires
 signed-refusal-requires c κs = search needs
 
--- src/elements.rt:120:9
 refused-element-requires-2 : tie.Need-refused-element-requires-2
 refused-element-requires-2 c κs = search needs
 
--- src/elements.rt:120:9
 returns-2 : tie.Need-returns-2
 unfolding readElement
 returns-2 c = rw (c .refused-element2 .ensures, c .before .signed-refusal .ensures, ← c .before .before .before .before .before .before .before .before .read-within .ensures, c .before .before .before .before .before .before .a .given .1, ← c .before .before .before .before .read-radius .ensures, c .before .before .enum-told2 .given .1)
 
--- src/elements.rt:122:9
 curve-of-requires : tie.Need-curve-of-requires
 curve-of-requires c κs = search needs
 
--- src/elements.rt:111:1
 returns-3 : tie.Need-returns-3
 unfolding readElement
 returns-3 c = rw (c .curve-of .ensures ∙ ap curveOf (radius (c .before)), ← c .before .before .before .before .before .before .before .before .read-within .ensures, c .before .before .before .before .before .before .a .given .1, ← c .before .before .before .before .read-radius .ensures, c .before .before .b .given .1)

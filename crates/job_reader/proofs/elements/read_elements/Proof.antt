@@ -1,10 +1,11 @@
-use Prim.Native.Nat.{ℕ, _≤_, _-_, _+_, _*_}
+-- `job_reader::elements::read_elements` meets its contract. Assumes nothing.
+use Prim.Native.Nat.{ℕ, _≤_, _-_, _*_}
 use native.Mathlib.Omega.{arith}
 use native.Mathlib.Nat.{sub-zero}
 use borrow.Author.Needs.{needs}
 use mathlib.Core.Path.{_≡_, _∙_, sym, ap}
 use mathlib.Core.List.{List}
-use Rattle.number.specs.Read.{Reader, got, refused, many, into}
+use Rattle.number.specs.Read.{Reader, many, into}
 use Rattle.number.proofs.ManyLaws.{into-end, into-more, into-refused}
 use Rattle.job.specs.Steps.{tally}
 use Rattle.job.specs.declared.Element.{Element}
@@ -13,12 +14,6 @@ use Rattle.job_reader.specs.Answers.{beside}
 use Rattle.job_reader.proofs.ReadLaws.{tally-read}
 use Rattle.job_reader.proofs.elements.read_elements.Statement.{statement}
 use Rattle.job_reader.proofs.elements.read_elements.Tie as tie
-use Rattle.job_reader.proofs.elements.read_elements.Reads as reads
-use Rattle.job_reader.proofs.elements.read_elements.Lts as lts
-use Rattle.job.proofs.empty_elements.Reads as empty-elements-reads
-use Rattle.job.proofs.steps_allowed.Reads as steps-allowed-reads
-use Rattle.job.proofs.tally_element.Reads as tally-element-reads
-use Rattle.job_reader.proofs.elements.read_element.Reads as read-element-reads
 
 -- the elements from i on, with the steps of those before them
 abbrev rest : ℕ → ℕ → ℕ → ℕ → ℕ → Reader (List Element)
@@ -40,55 +35,43 @@ done c =
     let o = c .before .before .before .before .before in
     sym (into-end (λ t. readElement) (tally (o .args .step)) (readTotal (o .args .place)) (o .args .s .now) (l .elements) (o .args .count) (l .i) (l .at .at) (l .total) (c .before .loop-test .left)) ∙ l .inv .2
 
--- src/elements.rt:134:24
 empty-elements-requires : tie.Need-empty-elements-requires Inv-loop μ-loop
 empty-elements-requires c κs = search needs
 
--- src/elements.rt:138:5
 loop-holds : tie.Need-loop-holds Inv-loop μ-loop
 unfolding readElements
 loop-holds c = (omega arith, omega arith, rw (c .empty-elements .ensures, sub-zero))
 
--- src/elements.rt:139:13
 read-element-requires : tie.Need-read-element-requires Inv-loop μ-loop
 read-element-requires c κs = search needs
 
--- src/elements.rt:141:24
 enum-known-a : tie.Need-enum-known-a Inv-loop μ-loop
 enum-known-a c = search needs
 
--- src/elements.rt:144:17
 enum-told : tie.Need-enum-told Inv-loop μ-loop
 enum-told c = search needs
 
--- src/elements.rt:142:13
 returns : tie.Need-returns Inv-loop μ-loop
 returns c = let l = c .before .before .before .before .loop in
     let a = c .before .before .before .before .before .before .before .args in
     rw (c .enum-told .given .1)
     (sym (into-refused (λ t. readElement) (tally (a .step)) (readTotal (a .place)) _ (l .elements) (a .count) (l .i) _ (l .total) (c .before .before .before .loop-test .taken) (sym (ap (beside (c .before .before .read-element .result .element)) (c .enum-told .given .1)) ∙ c .before .before .read-element .ensures)) ∙ l .inv .2)
 
--- src/elements.rt:148:9
 mul-elements : tie.Need-mul-elements Inv-loop μ-loop
 mul-elements c = search needs
 
--- src/elements.rt:148:9
 array-set-from-elements : tie.Need-array-set-from-elements Inv-loop μ-loop
 array-set-from-elements c = omega (arith, c .before .before .before .before .before .before .before .before .before .pre .most, c .before .before .before .before .before .loop-test .taken)
 
--- src/elements.rt:149:9
 tally-element-requires : tie.Need-tally-element-requires Inv-loop μ-loop
 tally-element-requires c κs = record { positive = c .before .before .before .before .before .before .before .before .before .pre .positive; room = omega (arith, c .before .before .before .before .before .before .loop .inv .1, c .before .before .before .before .before .before .before .before .before .pre .most, c .before .before .before .before .before .loop-test .taken) }
 
--- src/elements.rt:151:9
 add-i : tie.Need-add-i Inv-loop μ-loop
 add-i c = search needs
 
--- src/elements.rt:138:5
 loop-less : tie.Need-loop-less Inv-loop μ-loop
 loop-less c = search needs
 
--- src/elements.rt:138:5
 loop-again : tie.Need-loop-again Inv-loop μ-loop
 loop-again c = let l = c .before .before .before .before .before .before .before .loop in
     let a = c .before .before .before .before .before .before .before .before .before .before .args in
@@ -101,15 +84,12 @@ loop-again c = let l = c .before .before .before .before .before .before .before
       rw t (sym (into-more (λ t. readElement) (tally (a .step)) (readTotal (a .place)) _ (l .elements) (a .count) (l .i) _ (l .total) (c .before .before .before .before .before .before .loop-test .taken) g) ∙ l .inv .2),
     )
 
--- src/elements.rt:153:8
 steps-allowed-requires : tie.Need-steps-allowed-requires Inv-loop μ-loop
 steps-allowed-requires c κs = search needs
 
--- src/elements.rt:154:9
 returns-2 : tie.Need-returns-2 Inv-loop μ-loop
 returns-2 c = rw (sym (c .before .steps-allowed .ensures) ∙ c .if1 .taken) at (done (c .before))
 
--- src/elements.rt:130:1
 returns-3 : tie.Need-returns-3 Inv-loop μ-loop
 returns-3 c = rw (sym (c .before .steps-allowed .ensures) ∙ c .if1 .left) at (done (c .before))
 

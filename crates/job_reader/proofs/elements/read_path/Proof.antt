@@ -1,3 +1,4 @@
+-- `job_reader::elements::read_path` meets its contract. Assumes nothing.
 use Prim.Native.Nat.{_≤_}
 use native.Mathlib.Omega.{arith}
 use mathlib.Core.Path.{_∙_, sym, ap}
@@ -7,13 +8,6 @@ use Rattle.job_reader.proofs.ReadLaws.{field-within}
 use borrow.Author.Needs.{needs}
 use Rattle.job_reader.proofs.elements.read_path.Statement.{statement}
 use Rattle.job_reader.proofs.elements.read_path.Tie as tie
-use Rattle.job_reader.proofs.elements.read_path.Reads as reads
-use Rattle.job_reader.proofs.elements.read_path.Lts as lts
-use Rattle.job_reader.proofs.elements.read_elements.Reads as read-elements-reads
-use Rattle.job_reader.proofs.elements.refused_path.Reads as refused-path-reads
-use Rattle.job_reader.proofs.passed_refusal.Reads as passed-refusal-reads
-use Rattle.number.proofs.number_refusal.Reads as number-refusal-reads
-use Rattle.number.proofs.read_within.Reads as read-within-reads
 
 -- the step is at least 100, and the number of elements at most 64
 step : (c : tie.After-a) → 100 ≤ c .a .given .0 .0
@@ -22,86 +16,66 @@ step c = field-within 7 (record { least = 100; most = 20000 }) _ _ _ _ (sym (ap 
 count : (c : tie.After-b) → c .b .given .0 .0 ≤ 64
 count c = field-within 8 (record { least = 1; most = 64 }) _ _ _ _ (sym (ap asNumber (c .b .given .1)) ∙ c .before .before .read-within2 .ensures) .1
 
--- src/elements.rt:179:9
 read-within-requires : tie.Need-read-within-requires
 read-within-requires c κs = search needs
 
--- src/elements.rt:180:23
 enum-known-a : tie.Need-enum-known-a
 enum-known-a c = search needs
 
--- src/elements.rt:181:29
 enum-told : tie.Need-enum-told
 enum-told c = search needs
 
--- src/elements.rt:181:29
 number-refusal-requires : tie.Need-number-refusal-requires
 number-refusal-requires c κs = search needs
 
--- src/elements.rt:181:9
 refused-path-requires : tie.Need-refused-path-requires
 refused-path-requires c κs = search needs
 
--- src/elements.rt:181:9
 returns : tie.Need-returns
 unfolding readPath
 returns c = rw (c .refused-path .ensures, c .before .number-refusal .ensures, ← c .before .before .before .before .read-within .ensures, c .before .before .enum-told .given .1)
 
--- src/elements.rt:184:9
 read-within-requires-2 : tie.Need-read-within-requires-2
 read-within-requires-2 c κs = search needs
 
--- src/elements.rt:185:23
 enum-known-b : tie.Need-enum-known-b
 enum-known-b c = search needs
 
--- src/elements.rt:186:29
 enum-told-2 : tie.Need-enum-told-2
 enum-told-2 c = search needs
 
--- src/elements.rt:186:29
 number-refusal-requires-2 : tie.Need-number-refusal-requires-2
 number-refusal-requires-2 c κs = search needs
 
--- src/elements.rt:186:9
 refused-path-requires-2 : tie.Need-refused-path-requires-2
 refused-path-requires-2 c κs = search needs
 
--- src/elements.rt:186:9
 returns-2 : tie.Need-returns-2
 unfolding readPath
 returns-2 c = rw (c .refused-path2 .ensures, c .before .number-refusal2 .ensures, ← c .before .before .before .before .before .before .before .before .read-within .ensures, c .before .before .before .before .before .before .a .given .1, ← c .before .before .before .before .read-within2 .ensures, c .before .before .enum-told2 .given .1)
 
--- src/elements.rt:188:17
 cast-count : tie.Need-cast-count
 cast-count c = search needs
 
--- src/elements.rt:189:9
 read-elements-requires : tie.Need-read-elements-requires
 read-elements-requires c κs = record { positive = omega (arith, step (c .before .before .before .before .before)); most = count (c .before) }
 
--- src/elements.rt:191:20
 enum-known-d : tie.Need-enum-known-d
 enum-known-d c = search needs
 
--- src/elements.rt:192:29
 enum-told-3 : tie.Need-enum-told-3
 enum-told-3 c = search needs
 
--- src/elements.rt:192:29
 passed-refusal-requires : tie.Need-passed-refusal-requires
 passed-refusal-requires c κs = search needs
 
--- src/elements.rt:192:9
 refused-path-requires-3 : tie.Need-refused-path-requires-3
 refused-path-requires-3 c κs = search needs
 
--- src/elements.rt:192:9
 returns-3 : tie.Need-returns-3
 unfolding readPath
 returns-3 c = rw (c .refused-path3 .ensures, c .before .passed-refusal .ensures, ← c .before .before .before .before .before .before .before .before .before .before .before .before .read-within .ensures, c .before .before .before .before .before .before .before .before .before .before .a .given .1, ← c .before .before .before .before .before .before .before .before .read-within2 .ensures, c .before .before .before .before .before .before .b .given .1, ← c .before .before .before .before .read-elements .ensures, c .before .before .enum-told3 .given .1)
 
--- src/elements.rt:176:1
 returns-4 : tie.Need-returns-4
 unfolding readPath
 returns-4 c = rw (← c .before .before .before .before .before .before .before .before .before .before .before .before .read-within .ensures, c .before .before .before .before .before .before .before .before .before .before .a .given .1, ← c .before .before .before .before .before .before .before .before .read-within2 .ensures, c .before .before .before .before .before .before .b .given .1, ← c .before .before .before .before .read-elements .ensures, c .before .before .d .given .1)

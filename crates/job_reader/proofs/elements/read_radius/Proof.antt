@@ -1,3 +1,4 @@
+-- `job_reader::elements::read_radius` meets its contract. Assumes nothing.
 use mathlib.Core.Path.{_≡_, ap, _∙_, sym}
 use mir.Syntax.{w32}
 use mir.Val.{toZ, ofZ}
@@ -7,11 +8,6 @@ use Rattle.job.specs.Curves.{radiusAllowed}
 use borrow.Author.Needs.{needs}
 use Rattle.job_reader.proofs.elements.read_radius.Statement.{statement}
 use Rattle.job_reader.proofs.elements.read_radius.Tie as tie
-use Rattle.job_reader.proofs.elements.read_radius.Reads as reads
-use Rattle.job_reader.proofs.elements.read_radius.Lts as lts
-use Rattle.job.proofs.curve_allowed.Reads as curve-allowed-reads
-use Rattle.job_reader.proofs.elements.curve_of.Reads as curve-of-reads
-use Rattle.number.proofs.read_signed.Reads as read-signed-reads
 
 -- the test is that of the number read
 test : (c : tie.After-curve-allowed) → radiusAllowed (c .before .before .before .a .given .0 .0) ≡ c .curve-allowed .result
@@ -19,37 +15,29 @@ test c =
     let e : toZ w32 (ofZ w32 (c .before .before .before .a .given .0 .0)) ≡ c .before .before .before .a .given .0 .0 = search needs in
     sym (c .curve-allowed .ensures ∙ ap curveAllowed (c .before .curve-of .ensures) ∙ ap radiusAllowed e)
 
--- src/elements.rt:89:9
 read-signed-requires : tie.Need-read-signed-requires
 read-signed-requires c κs = search needs
 
--- src/elements.rt:90:23
 enum-known-a : tie.Need-enum-known-a
 enum-known-a c = search needs
 
--- src/elements.rt:91:9
 enum-told : tie.Need-enum-told
 enum-told c = search needs
 
--- src/elements.rt:91:9
 returns : tie.Need-returns
 unfolding signedField
 returns c = rw (← c .before .before .read-signed .ensures, c .enum-told .given .1)
 
--- src/elements.rt:93:27
 curve-of-requires : tie.Need-curve-of-requires
 curve-of-requires c κs = search needs
 
--- src/elements.rt:93:8
 curve-allowed-requires : tie.Need-curve-allowed-requires
 curve-allowed-requires c κs = search needs
 
--- src/elements.rt:94:9
 returns-2 : tie.Need-returns-2
 unfolding signedField
 returns-2 c = rw (← c .before .before .before .before .before .before .read-signed .ensures, c .before .before .before .before .a .given .1, test (c .before), c .if1 .taken)
 
--- src/elements.rt:85:1
 returns-3 : tie.Need-returns-3
 unfolding signedField
 returns-3 c = rw (← c .before .before .before .before .before .before .read-signed .ensures, c .before .before .before .before .a .given .1, test (c .before), c .if1 .left)

@@ -1,3 +1,4 @@
+-- `job_reader::units::read_fold` meets its contract. Assumes nothing.
 use mathlib.Core.Path.{_≡_, ap, _∙_, sym}
 use mir.Syntax.{w32}
 use mir.Val.{toZ, ofZ}
@@ -6,10 +7,6 @@ use Rattle.job.specs.Allowed.{foldAllowed}
 use borrow.Author.Needs.{needs}
 use Rattle.job_reader.proofs.units.read_fold.Statement.{statement}
 use Rattle.job_reader.proofs.units.read_fold.Tie as tie
-use Rattle.job_reader.proofs.units.read_fold.Reads as reads
-use Rattle.job_reader.proofs.units.read_fold.Lts as lts
-use Rattle.job.proofs.fold_allowed.Reads as fold-allowed-reads
-use Rattle.number.proofs.read_signed.Reads as read-signed-reads
 
 -- the test is that of the number read
 test : (c : tie.After-fold-allowed) → foldAllowed (c .before .before .before .before .before .before .args .first) (c .before .before .a .given .0 .0) ≡ c .fold-allowed .result
@@ -17,33 +14,26 @@ test c =
     let e : toZ w32 (ofZ w32 (c .before .before .a .given .0 .0)) ≡ c .before .before .a .given .0 .0 = search needs in
     sym (c .fold-allowed .ensures ∙ ap (foldAllowed (c .before .before .before .before .before .before .args .first)) e)
 
--- src/units.rt:25:9
 read-signed-requires : tie.Need-read-signed-requires
 read-signed-requires c κs = search needs
 
--- src/units.rt:26:23
 enum-known-a : tie.Need-enum-known-a
 enum-known-a c = search needs
 
--- src/units.rt:27:9
 enum-told : tie.Need-enum-told
 enum-told c = search needs
 
--- src/units.rt:27:9
 returns : tie.Need-returns
 unfolding signedField
 returns c = rw (← c .before .before .read-signed .ensures, c .enum-told .given .1)
 
--- src/units.rt:29:8
 fold-allowed-requires : tie.Need-fold-allowed-requires
 fold-allowed-requires c κs = search needs
 
--- src/units.rt:30:9
 returns-2 : tie.Need-returns-2
 unfolding signedField
 returns-2 c = rw (← c .before .before .before .before .before .read-signed .ensures, c .before .before .before .a .given .1, test (c .before), c .if1 .taken)
 
--- src/units.rt:21:1
 returns-3 : tie.Need-returns-3
 unfolding signedField
 returns-3 c = rw (← c .before .before .before .before .before .read-signed .ensures, c .before .before .before .a .given .1, test (c .before), c .if1 .left)

@@ -1,3 +1,4 @@
+-- `job_reader::units::read_unit` meets its contract. Assumes nothing.
 use mathlib.Core.Path.{_≡_}
 use mir.Syntax.{w32}
 use mir.Val.{toZ, ofZ}
@@ -5,15 +6,6 @@ use Rattle.job_reader.specs.Record.{readUnit}
 use borrow.Author.Needs.{needs}
 use Rattle.job_reader.proofs.units.read_unit.Statement.{statement}
 use Rattle.job_reader.proofs.units.read_unit.Tie as tie
-use Rattle.job_reader.proofs.units.read_unit.Reads as reads
-use Rattle.job_reader.proofs.units.read_unit.Lts as lts
-use Rattle.job.proofs.hitch_most.Reads as hitch-most-reads
-use Rattle.job_reader.proofs.units.read_fold.Reads as read-fold-reads
-use Rattle.job_reader.proofs.units.refused_unit.Reads as refused-unit-reads
-use Rattle.number.proofs.number_refusal.Reads as number-refusal-reads
-use Rattle.number.proofs.read_sized.Reads as read-sized-reads
-use Rattle.number.proofs.read_within.Reads as read-within-reads
-use Rattle.number.proofs.signed_refusal.Reads as signed-refusal-reads
 
 -- each signed value is read back from its bits as it was
 hitch : (c : tie.After-known-told2) → toZ w32 (ofZ w32 (c .before .b .given .0 .0)) ≡ c .before .b .given .0 .0
@@ -22,86 +14,66 @@ hitch c = search needs
 fold : (c : tie.After-known-told3) → toZ w32 (ofZ w32 (c .before .d .given .0 .0)) ≡ c .before .d .given .0 .0
 fold c = search needs
 
--- src/units.rt:51:9
 read-within-requires : tie.Need-read-within-requires
 read-within-requires c κs = search needs
 
--- src/units.rt:52:23
 enum-known-a : tie.Need-enum-known-a
 enum-known-a c = search needs
 
--- src/units.rt:53:29
 enum-told : tie.Need-enum-told
 enum-told c = search needs
 
--- src/units.rt:53:29
 number-refusal-requires : tie.Need-number-refusal-requires
 number-refusal-requires c κs = search needs
 
--- src/units.rt:53:9
 refused-unit-requires : tie.Need-refused-unit-requires
 refused-unit-requires c κs = search needs
 
--- src/units.rt:53:9
 returns : tie.Need-returns
 unfolding readUnit
 returns c = rw (c .refused-unit .ensures, c .before .number-refusal .ensures, ← c .before .before .before .before .read-within .ensures, c .before .before .enum-told .given .1)
 
--- src/units.rt:55:42
 hitch-most-requires : tie.Need-hitch-most-requires
 hitch-most-requires c κs = search needs
 
--- src/units.rt:55:9
 read-sized-requires : tie.Need-read-sized-requires
 read-sized-requires c κs = search needs
 
--- src/units.rt:56:23
 enum-known-b : tie.Need-enum-known-b
 enum-known-b c = search needs
 
--- src/units.rt:57:29
 enum-told-2 : tie.Need-enum-told-2
 enum-told-2 c = search needs
 
--- src/units.rt:57:29
 signed-refusal-requires : tie.Need-signed-refusal-requires
 signed-refusal-requires c κs = search needs
 
--- src/units.rt:57:9
 refused-unit-requires-2 : tie.Need-refused-unit-requires-2
 refused-unit-requires-2 c κs = search needs
 
--- src/units.rt:57:9
 returns-2 : tie.Need-returns-2
 unfolding readUnit
 returns-2 c = rw (c .refused-unit2 .ensures, c .before .signed-refusal .ensures, ← c .before .before .before .before .before .before .before .before .before .read-within .ensures, c .before .before .before .before .before .before .before .a .given .1, ← c .before .before .before .before .before .hitch-most .ensures, ← c .before .before .before .before .read-sized .ensures, c .before .before .enum-told2 .given .1)
 
--- src/units.rt:59:9
 read-fold-requires : tie.Need-read-fold-requires
 read-fold-requires c κs = search needs
 
--- src/units.rt:60:23
 enum-known-d : tie.Need-enum-known-d
 enum-known-d c = search needs
 
--- src/units.rt:61:29
 enum-told-3 : tie.Need-enum-told-3
 enum-told-3 c = search needs
 
--- src/units.rt:61:29
 signed-refusal-requires-2 : tie.Need-signed-refusal-requires-2
 signed-refusal-requires-2 c κs = search needs
 
--- src/units.rt:61:9
 refused-unit-requires-3 : tie.Need-refused-unit-requires-3
 refused-unit-requires-3 c κs = search needs
 
--- src/units.rt:61:9
 returns-3 : tie.Need-returns-3
 unfolding readUnit
 returns-3 c = rw (c .refused-unit3 .ensures, c .before .signed-refusal2 .ensures, ← c .before .before .before .before .before .before .before .before .before .before .before .before .before .read-within .ensures, c .before .before .before .before .before .before .before .before .before .before .before .a .given .1, ← c .before .before .before .before .before .before .before .before .before .hitch-most .ensures, ← c .before .before .before .before .before .before .before .before .read-sized .ensures, c .before .before .before .before .before .before .b .given .1, ← c .before .before .before .before .read-fold .ensures, c .before .before .enum-told3 .given .1)
 
--- src/units.rt:48:1
 returns-4 : tie.Need-returns-4
 unfolding readUnit
 returns-4 c = rw (hitch (c .before .before .before .before), fold c, ← c .before .before .before .before .before .before .before .before .before .before .before .before .read-within .ensures, c .before .before .before .before .before .before .before .before .before .before .a .given .1, ← c .before .before .before .before .before .before .before .before .hitch-most .ensures, ← c .before .before .before .before .before .before .before .read-sized .ensures, c .before .before .before .before .before .b .given .1, ← c .before .before .before .read-fold .ensures, c .before .d .given .1)

@@ -1,3 +1,4 @@
+-- `job_reader::units::read_units` meets its contract. Assumes nothing.
 use Prim.Native.Nat.{ℕ, _≤_, _-_, _+_}
 use native.Mathlib.Omega.{arith}
 use native.Mathlib.Nat.{sub-zero}
@@ -11,10 +12,6 @@ use Rattle.job_reader.specs.Record.{readUnitAt, readUnits}
 use Rattle.job_reader.specs.Answers.{beside}
 use Rattle.job_reader.proofs.units.read_units.Statement.{statement}
 use Rattle.job_reader.proofs.units.read_units.Tie as tie
-use Rattle.job_reader.proofs.units.read_units.Reads as reads
-use Rattle.job_reader.proofs.units.read_units.Lts as lts
-use Rattle.job.proofs.empty_units.Reads as empty-units-reads
-use Rattle.job_reader.proofs.units.read_unit.Reads as read-unit-reads
 
 abbrev next : ℕ → VehicleUnit → ℕ
 next i u = i + 1
@@ -32,61 +29,48 @@ Inv-loop s count units₀ at₀ i₀ units at i = (i ≤ count) × (into units i
 abbrev μ-loop : tie.MeasureT-loop
 μ-loop s count units₀ at₀ i₀ units at i = count - i
 
--- src/units.rt:77:21
 empty-units-requires : tie.Need-empty-units-requires Inv-loop μ-loop
 empty-units-requires c κs = search needs
 
--- src/units.rt:80:5
 loop-holds : tie.Need-loop-holds Inv-loop μ-loop
 unfolding readUnits
 loop-holds c = (omega arith, rw (c .empty-units .ensures, sub-zero))
 
--- src/units.rt:81:42
 add-read-unit : tie.Need-add-read-unit Inv-loop μ-loop
 add-read-unit c = search needs
 
--- src/units.rt:81:13
 read-unit-requires : tie.Need-read-unit-requires Inv-loop μ-loop
 read-unit-requires c κs = search needs
 
--- src/units.rt:83:24
 enum-known-a : tie.Need-enum-known-a Inv-loop μ-loop
 enum-known-a c = search needs
 
--- src/units.rt:84:43
 enum-told : tie.Need-enum-told Inv-loop μ-loop
 enum-told c = search needs
 
--- src/units.rt:84:13
 returns : tie.Need-returns Inv-loop μ-loop
 returns c = let l = c .before .before .before .before .loop in
     let a = c .before .before .before .before .before .before .before .args .count in
     rw (c .enum-told .given .1)
     (sym (into-refused (readUnitAt a) next end _ (l .units) a (l .i) _ (l .i) (c .before .before .before .loop-test .taken) (sym (ap (beside (c .before .before .read-unit .result .unit)) (c .enum-told .given .1)) ∙ c .before .before .read-unit .ensures)) ∙ l .inv .1)
 
--- src/units.rt:87:9
 mul-units : tie.Need-mul-units Inv-loop μ-loop
 mul-units c = search needs
 
--- src/units.rt:87:9
 array-set-from-units : tie.Need-array-set-from-units Inv-loop μ-loop
 array-set-from-units c = omega (arith, c .before .before .before .before .before .before .before .before .before .pre .most, c .before .before .before .before .before .loop-test .taken)
 
--- src/units.rt:89:9
 add-i : tie.Need-add-i Inv-loop μ-loop
 add-i c = search needs
 
--- src/units.rt:80:5
 loop-less : tie.Need-loop-less Inv-loop μ-loop
 loop-less c = search needs
 
--- src/units.rt:80:5
 loop-again : tie.Need-loop-again Inv-loop μ-loop
 loop-again c = let l = c .before .before .before .before .before .before .loop in
     let a = c .before .before .before .before .before .before .before .before .before .args .count in
     (omega arith, sym (into-more (readUnitAt a) next end _ (l .units) a (l .i) _ (l .i) (c .before .before .before .before .before .loop-test .taken) (sym (ap (beside (c .before .before .before .before .read-unit .result .unit)) (c .before .before .a .given .1)) ∙ c .before .before .before .before .read-unit .ensures)) ∙ l .inv .1)
 
--- src/units.rt:73:1
 returns-2 : tie.Need-returns-2 Inv-loop μ-loop
 returns-2 c = let l = c .before .loop in
     let a = c .before .before .before .before .args .count in

@@ -1,3 +1,4 @@
+-- `job_reader::units::read_vehicle` meets its contract. Assumes nothing.
 use Prim.Native.Nat.{_≤_}
 use mathlib.Core.Path.{_∙_, sym, ap}
 use Rattle.number.specs.Answers.{asNumber}
@@ -6,78 +7,55 @@ use Rattle.job_reader.proofs.ReadLaws.{field-within}
 use borrow.Author.Needs.{needs}
 use Rattle.job_reader.proofs.units.read_vehicle.Statement.{statement}
 use Rattle.job_reader.proofs.units.read_vehicle.Tie as tie
-use Rattle.job_reader.proofs.units.read_vehicle.Reads as reads
-use Rattle.job_reader.proofs.units.read_vehicle.Lts as lts
-use Rattle.job_reader.proofs.passed_refusal.Reads as passed-refusal-reads
-use Rattle.job_reader.proofs.units.read_units.Reads as read-units-reads
-use Rattle.job_reader.proofs.units.read_widths.Reads as read-widths-reads
-use Rattle.job_reader.proofs.units.refused_vehicle.Reads as refused-vehicle-reads
-use Rattle.number.proofs.number_refusal.Reads as number-refusal-reads
-use Rattle.number.proofs.read_within.Reads as read-within-reads
 
 -- the number of units is at most 4
 count : (c : tie.After-a) → c .a .given .0 .0 ≤ 4
 count c = field-within 3 (record { least = 1; most = 4 }) _ _ _ _ (sym (ap asNumber (c .a .given .1)) ∙ c .before .before .read-within .ensures) .1
 
--- src/units.rt:138:9
 read-within-requires : tie.Need-read-within-requires
 read-within-requires c κs = search needs
 
--- src/units.rt:139:23
 enum-known-a : tie.Need-enum-known-a
 enum-known-a c = search needs
 
--- src/units.rt:140:32
 enum-told : tie.Need-enum-told
 enum-told c = search needs
 
--- src/units.rt:140:32
 number-refusal-requires : tie.Need-number-refusal-requires
 number-refusal-requires c κs = search needs
 
--- src/units.rt:140:9
 refused-vehicle-requires : tie.Need-refused-vehicle-requires
 refused-vehicle-requires c κs = search needs
 
--- src/units.rt:140:9
 returns : tie.Need-returns
 unfolding readVehicle
 returns c = rw (c .refused-vehicle .ensures, c .before .number-refusal .ensures, ← c .before .before .before .before .read-within .ensures, c .before .before .enum-told .given .1)
 
--- src/units.rt:142:17
 cast-count : tie.Need-cast-count
 cast-count c = search needs
 
--- src/units.rt:143:9
 read-units-requires : tie.Need-read-units-requires
 read-units-requires c κs = record { most = count (c .before) }
 
--- src/units.rt:145:20
 enum-known-b : tie.Need-enum-known-b
 enum-known-b c = search needs
 
--- src/units.rt:146:32
 enum-told-2 : tie.Need-enum-told-2
 enum-told-2 c = search needs
 
--- src/units.rt:146:32
 passed-refusal-requires : tie.Need-passed-refusal-requires
 passed-refusal-requires c κs = search needs
 
--- src/units.rt:146:9
 refused-vehicle-requires-2 : tie.Need-refused-vehicle-requires-2
 refused-vehicle-requires-2 c κs = search needs
 
--- src/units.rt:146:9
 returns-2 : tie.Need-returns-2
 unfolding readVehicle
 returns-2 c = rw (c .refused-vehicle2 .ensures, c .before .passed-refusal .ensures, ← c .before .before .before .before .before .before .before .before .read-within .ensures, c .before .before .before .before .before .before .a .given .1, ← c .before .before .before .before .read-units .ensures, c .before .before .enum-told2 .given .1)
 
--- src/units.rt:149:5
 read-widths-requires : tie.Need-read-widths-requires
 read-widths-requires c κs = search needs
 
--- src/units.rt:135:1
 returns-3 : tie.Need-returns-3
 unfolding readVehicle
 returns-3 c = rw (c .read-widths .ensures, ← c .before .before .before .before .before .before .before .before .before .read-within .ensures, c .before .before .before .before .before .before .before .a .given .1, ← c .before .before .before .before .before .read-units .ensures, c .before .before .before .b .given .1)

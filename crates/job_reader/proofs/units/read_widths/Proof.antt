@@ -1,89 +1,66 @@
+-- `job_reader::units::read_widths` meets its contract. Assumes nothing.
 use Rattle.job_reader.specs.Record.{readWidths}
 use borrow.Author.Needs.{needs}
 use Rattle.job_reader.proofs.units.read_widths.Statement.{statement}
 use Rattle.job_reader.proofs.units.read_widths.Tie as tie
-use Rattle.job_reader.proofs.units.read_widths.Reads as reads
-use Rattle.job_reader.proofs.units.read_widths.Lts as lts
-use Rattle.job_reader.proofs.units.refused_vehicle.Reads as refused-vehicle-reads
-use Rattle.number.proofs.number_refusal.Reads as number-refusal-reads
-use Rattle.number.proofs.read_within.Reads as read-within-reads
 
--- src/units.rt:111:9
 read-within-requires : tie.Need-read-within-requires
 read-within-requires c κs = search needs
 
--- src/units.rt:112:23
 enum-known-a : tie.Need-enum-known-a
 enum-known-a c = search needs
 
--- src/units.rt:113:32
 enum-told : tie.Need-enum-told
 enum-told c = search needs
 
--- src/units.rt:113:32
 number-refusal-requires : tie.Need-number-refusal-requires
 number-refusal-requires c κs = search needs
 
--- src/units.rt:113:9
 refused-vehicle-requires : tie.Need-refused-vehicle-requires
 refused-vehicle-requires c κs = search needs
 
--- src/units.rt:113:9
 returns : tie.Need-returns
 unfolding readWidths
 returns c = rw (c .refused-vehicle .ensures, c .before .number-refusal .ensures, ← c .before .before .before .before .read-within .ensures, c .before .before .enum-told .given .1)
 
--- src/units.rt:115:9
 read-within-requires-2 : tie.Need-read-within-requires-2
 read-within-requires-2 c κs = search needs
 
--- src/units.rt:116:23
 enum-known-b : tie.Need-enum-known-b
 enum-known-b c = search needs
 
--- src/units.rt:117:32
 enum-told-2 : tie.Need-enum-told-2
 enum-told-2 c = search needs
 
--- src/units.rt:117:32
 number-refusal-requires-2 : tie.Need-number-refusal-requires-2
 number-refusal-requires-2 c κs = search needs
 
--- src/units.rt:117:9
 refused-vehicle-requires-2 : tie.Need-refused-vehicle-requires-2
 refused-vehicle-requires-2 c κs = search needs
 
--- src/units.rt:117:9
 returns-2 : tie.Need-returns-2
 unfolding readWidths
 returns-2 c = rw (c .refused-vehicle2 .ensures, c .before .number-refusal2 .ensures, ← c .before .before .before .before .before .before .before .before .read-within .ensures, c .before .before .before .before .before .before .a .given .1, ← c .before .before .before .before .read-within2 .ensures, c .before .before .enum-told2 .given .1)
 
--- src/units.rt:119:9
 read-within-requires-3 : tie.Need-read-within-requires-3
 read-within-requires-3 c κs = search needs
 
--- src/units.rt:120:23
 enum-known-d : tie.Need-enum-known-d
 enum-known-d c = search needs
 
--- src/units.rt:121:32
 enum-told-3 : tie.Need-enum-told-3
 enum-told-3 c = search needs
 
--- src/units.rt:121:32
 number-refusal-requires-3 : tie.Need-number-refusal-requires-3
 number-refusal-requires-3 c κs = search needs
 
--- src/units.rt:121:9
 refused-vehicle-requires-3 : tie.Need-refused-vehicle-requires-3
 refused-vehicle-requires-3 c κs = search needs
 
--- src/units.rt:121:9
 returns-3 : tie.Need-returns-3
 unfolding readWidths
 returns-3 c = rw (c .refused-vehicle3 .ensures, c .before .number-refusal3 .ensures, ← c .before .before .before .before .before .before .before .before .before .before .before .before .read-within .ensures, c .before .before .before .before .before .before .before .before .before .before .a .given .1, ← c .before .before .before .before .before .before .before .before .read-within2 .ensures, c .before .before .before .before .before .before .b .given .1, ← c .before .before .before .before .read-within3 .ensures, c .before .before .enum-told3 .given .1)
 
--- src/units.rt:108:1
 returns-4 : tie.Need-returns-4
 unfolding readWidths
 returns-4 c = rw (← c .before .before .before .before .before .before .before .before .before .before .before .read-within .ensures, c .before .before .before .before .before .before .before .before .before .a .given .1, ← c .before .before .before .before .before .before .before .read-within2 .ensures, c .before .before .before .before .before .b .given .1, ← c .before .before .before .read-within3 .ensures, c .before .d .given .1)

@@ -1,23 +1,19 @@
+-- `job_writer::encode::encode_job` meets its contract. Assumes nothing.
 use Rattle.job_writer.proofs.Arrays.{unmapped}
-use Prim.Native.Nat.{ℕ, _+_, _≤_}
+use Prim.Native.Nat.{_+_, _≤_}
 use native.Mathlib.Omega.{arith}
 use borrow.Author.Needs.{needs}
-use mathlib.Core.Path.{_≡_, refl}
-use mathlib.Core.List.{List, _++_}
+use mathlib.Core.Path.{_≡_}
+use mathlib.Core.List.{_++_}
 use lib.ListN.{length}
 use Rattle.number.proofs.FieldCodec.{within-most}
-use Rattle.job.proofs.FaultLaws.{Sound, sound, SoundVehicle, sound-vehicle}
+use Rattle.job.proofs.FaultLaws.{sound, sound-vehicle}
 use Rattle.job_writer.specs.Write.{writeVehicle, writeStart, writePath, writeJob}
 use Rattle.job_writer.specs.Encoding.{nothing}
 use Rattle.job_writer.proofs.AppendLaws.{join, first, then}
 use Rattle.job_writer.proofs.LengthLaws.{record-length, elements-allowed}
 use Rattle.job_writer.proofs.encode.encode_job.Statement.{statement}
 use Rattle.job_writer.proofs.encode.encode_job.Tie as tie
-use Rattle.job_writer.proofs.encode.encode_job.Reads as reads
-use Rattle.job_writer.proofs.encode.encode_job.Lts as lts
-use Rattle.job_writer.proofs.encode.put_path.Reads as put-path-reads
-use Rattle.job_writer.proofs.encode.put_start.Reads as put-start-reads
-use Rattle.job_writer.proofs.encode.put_vehicle.Reads as put-vehicle-reads
 
 sixty-four : (c : tie.Start) → length (c .args .j .elements) ≡ 64
 sixty-four c = search (needs, unmapped)
@@ -27,18 +23,15 @@ room : (c : tie.Start) → let j = c .args .j in 0 + length (writeVehicle (j .ve
 unfolding writeJob
 room c = omega (arith, record-length (c .args .j) (c .pre .accepted))
 
--- src/encode.rt:150:9
 put-vehicle-requires : tie.Need-put-vehicle-requires
 put-vehicle-requires c κs = let j = c .args .j in
     let v = sound-vehicle (j .vehicle) (sound j (c .pre .accepted) .vehicle) in
     record { most = within-most (record { least = 1; most = 4 }) (j .vehicle .count) (v .count); ends = first (writeVehicle (j .vehicle)) (writeStart (j .start) ++ writePath j) 0 (room c) .ends }
 
--- src/encode.rt:157:9
 put-start-requires : tie.Need-put-start-requires
 put-start-requires c κs = let j = c .before .args .j in
     first (writeStart (j .start)) (writePath j) _ (then _ (writeVehicle (j .vehicle)) _ (c .put-vehicle .ensures) (room (c .before)) .ends)
 
--- src/encode.rt:158:5
 put-path-requires : tie.Need-put-path-requires
 put-path-requires c κs = let j = c .before .before .args .j in
     let s = sound j (c .before .before .pre .accepted) in
@@ -50,7 +43,6 @@ put-path-requires c κs = let j = c .before .before .args .j in
       ends = then _ (writeStart (j .start)) _ (c .put-start .ensures) (then _ (writeVehicle (j .vehicle)) _ (c .before .put-vehicle .ensures) (room (c .before .before)) .ends) .ends;
     }
 
--- src/encode.rt:146:1
 returns : tie.Need-returns
 unfolding writeJob nothing
 returns c = let j = c .before .before .before .args .j in

@@ -1,4 +1,5 @@
-use Prim.Native.Nat.{ℕ, _≤_, _-_, _+_}
+-- `job_writer::encode::put_elements` meets its contract. Assumes nothing.
+use Prim.Native.Nat.{_≤_, _-_}
 use native.Mathlib.Omega.{arith}
 use borrow.Author.Needs.{needs}
 use mathlib.Core.Path.{_≡_, refl}
@@ -8,9 +9,6 @@ use Rattle.job_writer.specs.Write.{writeElement}
 use Rattle.job_writer.proofs.AppendLaws.{Run, run-room, run-next, run-end}
 use Rattle.job_writer.proofs.encode.put_elements.Statement.{statement}
 use Rattle.job_writer.proofs.encode.put_elements.Tie as tie
-use Rattle.job_writer.proofs.encode.put_elements.Reads as reads
-use Rattle.job_writer.proofs.encode.put_elements.Lts as lts
-use Rattle.job_writer.proofs.encode.put_element.Reads as put-element-reads
 
 abbrev Inv-loop : tie.InvT-loop
 Inv-loop count elements out₀ i₀ out i = (i ≤ count) × (length elements ≡ 64) × Run writeElement (take count elements) out₀ out i
@@ -18,19 +16,15 @@ Inv-loop count elements out₀ i₀ out i = (i ≤ count) × (length elements �
 abbrev μ-loop : tie.MeasureT-loop
 μ-loop count elements out₀ i₀ out i = count - i
 
--- src/encode.rt:115:5
 loop-holds : tie.Need-loop-holds Inv-loop μ-loop
 loop-holds c = (omega arith, search needs, record { same = refl })
 
--- src/encode.rt:116:17
 mul-x : tie.Need-mul-x Inv-loop μ-loop
 mul-x c = search needs
 
--- src/encode.rt:116:17
 array-copy-out-x : tie.Need-array-copy-out-x Inv-loop μ-loop
 array-copy-out-x c = omega (arith, c .before .before .pre .most)
 
--- src/encode.rt:117:9
 put-element-requires : tie.Need-put-element-requires Inv-loop μ-loop
 put-element-requires c κs = let l = c .before .before .loop in
     let a = c .before .before .before .args in
@@ -39,15 +33,12 @@ put-element-requires c κs = let l = c .before .before .loop in
       ends = run-room writeElement (a .t2) (a .count) _ (l .out) (l .i) emptyElement (omega (arith, l .inv .1, c .before .before .before .pre .most)) (c .before .loop-test .taken) (c .before .before .before .pre .ends) (l .inv .2) .ends;
     }
 
--- src/encode.rt:118:9
 add-i : tie.Need-add-i Inv-loop μ-loop
 add-i c = search needs
 
--- src/encode.rt:115:5
 loop-less : tie.Need-loop-less Inv-loop μ-loop
 loop-less c = search needs
 
--- src/encode.rt:115:5
 loop-again : tie.Need-loop-again Inv-loop μ-loop
 loop-again c = let l = c .before .before .before .loop in
     let a = c .before .before .before .before .args in (
@@ -56,7 +47,6 @@ loop-again c = let l = c .before .before .before .loop in
       run-next writeElement (a .t2) (a .count) _ (l .out) (l .i) emptyElement (omega (arith, l .inv .1, c .before .before .before .before .pre .most)) (c .before .before .loop-test .taken) (c .put-element .ensures) (l .inv .2),
     )
 
--- src/encode.rt:109:1
 returns : tie.Need-returns Inv-loop μ-loop
 returns c = let l = c .before .loop in
     let a = c .before .before .args in

@@ -1,22 +1,17 @@
+-- `job_writer::encode::put_number` meets its contract. Assumes nothing.
 use mathlib.Core.Path.{_≡_}
 use lib.ListN.{length}
 use borrow.Author.Needs.{needs}
 use Rattle.job_writer.proofs.encode.put_number.Statement.{statement}
 use Rattle.job_writer.proofs.encode.put_number.Tie as tie
-use Rattle.job_writer.proofs.encode.put_number.Reads as reads
-use Rattle.job_writer.proofs.encode.put_number.Lts as lts
-use Rattle.number.proofs.write.Reads as write-reads
 
--- src/encode.rt:27:30
 slice-aggregate-write : tie.Need-slice-aggregate-write
 slice-aggregate-write c = search needs
 
--- src/encode.rt:27:9
 write-requires : tie.Need-write-requires
 write-requires c κs = let n : length (c .before .before .args .e .bytes) ≡ 520 = search needs in
     rw n (c .before .before .pre)
 
--- src/encode.rt:21:1
 returns : tie.Need-returns
 returns c = rw (c .before .write .ensures .0, c .before .write .ensures .1)
 

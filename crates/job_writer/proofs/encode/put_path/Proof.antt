@@ -1,3 +1,4 @@
+-- `job_writer::encode::put_path` meets its contract. Assumes nothing.
 use Prim.Native.Nat.{ℕ}
 use mathlib.Core.List.{List, _++_}
 use lib.ListN.{take}
@@ -9,29 +10,21 @@ use Rattle.job_writer.proofs.AppendLaws.{join, first, then}
 use borrow.Author.Needs.{needs}
 use Rattle.job_writer.proofs.encode.put_path.Statement.{statement}
 use Rattle.job_writer.proofs.encode.put_path.Tie as tie
-use Rattle.job_writer.proofs.encode.put_path.Reads as reads
-use Rattle.job_writer.proofs.encode.put_path.Lts as lts
-use Rattle.job_writer.proofs.encode.put_elements.Reads as put-elements-reads
-use Rattle.job_writer.proofs.encode.put_number.Reads as put-number-reads
 
 abbrev elements : Job → List ℕ
 elements j = writeMany writeElement (take (j .count) (j .elements))
 
--- src/encode.rt:140:9
 put-number-requires : tie.Need-put-number-requires
 put-number-requires c κs = let j = c .before .args .j in
     first (writeNumber (j .step)) (writeNumber (j .count) ++ elements j) _ (c .before .pre .ends)
 
--- src/encode.rt:141:27
 cast-put-number : tie.Need-cast-put-number
 cast-put-number c = search needs
 
--- src/encode.rt:141:9
 put-number-requires-2 : tie.Need-put-number-requires-2
 put-number-requires-2 c κs = let j = c .before .before .args .j in
     first (writeNumber (j .count)) (elements j) _ (then _ (writeNumber (j .step)) _ (c .put-number .ensures) (c .before .before .pre .ends) .ends)
 
--- src/encode.rt:142:5
 put-elements-requires : tie.Need-put-elements-requires
 put-elements-requires c κs = let j = c .before .before .before .args .j in
     record {
@@ -40,7 +33,6 @@ put-elements-requires c κs = let j = c .before .before .before .args .j in
       ends = then _ (writeNumber (j .count)) _ (c .put-number2 .ensures) (then _ (writeNumber (j .step)) _ (c .before .put-number .ensures) (c .before .before .before .pre .ends) .ends) .ends;
     }
 
--- src/encode.rt:134:1
 returns : tie.Need-returns
 returns c = let j = c .before .before .before .before .args .j in
     join _ (writeNumber (j .step)) _ (c .before .before .put-number .ensures) (join _ (writeNumber (j .count)) _ (c .before .put-number2 .ensures) (c .put-elements .ensures))

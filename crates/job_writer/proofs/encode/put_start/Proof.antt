@@ -1,7 +1,7 @@
-use Prim.Native.Nat.{_+_, _≤_}
+-- `job_writer::encode::put_start` meets its contract. Assumes nothing.
+use Prim.Native.Nat.{_+_}
 use mathlib.Core.Path.{_≡_}
-use mathlib.Core.List.{List, _++_}
-use lib.ListN.{length}
+use mathlib.Core.List.{_++_}
 use mir.Syntax.{w32}
 use mir.Val.{toZ, ofZ}
 use Rattle.number.specs.Signed.{writeSigned}
@@ -11,9 +11,6 @@ use Rattle.job_writer.proofs.AppendLaws.{join, first, then}
 use borrow.Author.Needs.{needs}
 use Rattle.job_writer.proofs.encode.put_start.Statement.{statement}
 use Rattle.job_writer.proofs.encode.put_start.Tie as tie
-use Rattle.job_writer.proofs.encode.put_start.Reads as reads
-use Rattle.job_writer.proofs.encode.put_start.Lts as lts
-use Rattle.job_writer.proofs.encode.put_signed.Reads as put-signed-reads
 
 -- each signed value is read back from its bits as it was
 x : (c : tie.After-struct-told) → toZ w32 (ofZ w32 (c .before .args .s .x)) ≡ c .before .args .s .x
@@ -44,27 +41,22 @@ after-y c = then _ (writeSigned (c .before .before .before .before .before .befo
 put-gx : (c : tie.After-put-signed3) → c .put-signed3 .result ≡ appended (c .before .put-signed2 .result) (writeSigned (c .before .before .before .before .before .before .before .args .s .gx))
 put-gx c = rw (gx (c .before .before .before .before)) at (c .put-signed3 .ensures)
 
--- src/encode.rt:80:9
 put-signed-requires : tie.Need-put-signed-requires
 put-signed-requires c κs = let s = c .before .before .before .before .args .s in
     rw (x (c .before .before .before)) (first (writeSigned (s .x)) (writeSigned (s .y) ++ (writeSigned (s .gx) ++ writeSigned (s .gy))) _ (c .before .before .before .before .pre .ends))
 
--- src/encode.rt:81:9
 put-signed-requires-2 : tie.Need-put-signed-requires-2
 put-signed-requires-2 c κs = let s = c .before .before .before .before .before .args .s in
     rw (y (c .before .before .before)) (first (writeSigned (s .y)) (writeSigned (s .gx) ++ writeSigned (s .gy)) _ (after-x c .ends))
 
--- src/encode.rt:82:9
 put-signed-requires-3 : tie.Need-put-signed-requires-3
 put-signed-requires-3 c κs = let s = c .before .before .before .before .before .before .args .s in
     rw (gx (c .before .before .before)) (first (writeSigned (s .gx)) (writeSigned (s .gy)) _ (after-y c .ends))
 
--- src/encode.rt:83:5
 put-signed-requires-4 : tie.Need-put-signed-requires-4
 put-signed-requires-4 c κs = let s = c .before .before .before .before .before .before .before .args .s in
     rw (gy (c .before .before .before)) (then _ (writeSigned (s .gx)) _ (put-gx c) (after-y (c .before) .ends))
 
--- src/encode.rt:72:1
 returns : tie.Need-returns
 returns c = join _ (writeSigned (c .before .before .before .before .before .before .before .before .args .s .x)) _ (put-x (c .before .before .before))
     (join _ (writeSigned (c .before .before .before .before .before .before .before .before .args .s .y)) _ (put-y (c .before .before))

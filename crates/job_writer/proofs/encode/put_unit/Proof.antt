@@ -1,6 +1,7 @@
+-- `job_writer::encode::put_unit` meets its contract. Assumes nothing.
 use borrow.Author.Needs.{needs}
 use mathlib.Core.Path.{_≡_}
-use mathlib.Core.List.{List, _++_}
+use mathlib.Core.List.{_++_}
 use mir.Syntax.{w32}
 use mir.Val.{toZ, ofZ}
 use Rattle.number.specs.Number.{writeNumber}
@@ -8,10 +9,6 @@ use Rattle.number.specs.Signed.{writeSigned}
 use Rattle.job_writer.proofs.AppendLaws.{join, first, then}
 use Rattle.job_writer.proofs.encode.put_unit.Statement.{statement}
 use Rattle.job_writer.proofs.encode.put_unit.Tie as tie
-use Rattle.job_writer.proofs.encode.put_unit.Reads as reads
-use Rattle.job_writer.proofs.encode.put_unit.Lts as lts
-use Rattle.job_writer.proofs.encode.put_number.Reads as put-number-reads
-use Rattle.job_writer.proofs.encode.put_signed.Reads as put-signed-reads
 
 -- each signed value is read back from its bits as it was
 hitch : (c : tie.After-struct-told) → toZ w32 (ofZ w32 (c .before .args .u .hitch)) ≡ c .before .args .u .hitch
@@ -20,22 +17,18 @@ hitch c = search needs
 fold : (c : tie.After-struct-told2) → toZ w32 (ofZ w32 (c .before .before .args .u .fold)) ≡ c .before .before .args .u .fold
 fold c = search needs
 
--- src/encode.rt:44:9
 put-number-requires : tie.Need-put-number-requires
 put-number-requires c κs = let u = c .before .before .args .u in
     first (writeNumber (u .wheelbase)) (writeSigned (u .hitch) ++ writeSigned (u .fold)) _ (c .before .before .pre .ends)
 
--- src/encode.rt:45:9
 put-signed-requires : tie.Need-put-signed-requires
 put-signed-requires c κs = let u = c .before .before .before .args .u in
     rw (hitch (c .before .before)) (first (writeSigned (u .hitch)) (writeSigned (u .fold)) _ (then _ (writeNumber (u .wheelbase)) _ (c .put-number .ensures) (c .before .before .before .pre .ends) .ends))
 
--- src/encode.rt:46:5
 put-signed-requires-2 : tie.Need-put-signed-requires-2
 put-signed-requires-2 c κs = let u = c .before .before .before .before .args .u in
     rw (fold (c .before .before)) (then _ (writeSigned (u .hitch)) _ (rw (hitch (c .before .before .before)) at (c .put-signed .ensures)) (then _ (writeNumber (u .wheelbase)) _ (c .before .put-number .ensures) (c .before .before .before .before .pre .ends) .ends))
 
--- src/encode.rt:38:1
 returns : tie.Need-returns
 returns c = let u = c .before .before .before .before .before .args .u in
     join _ (writeNumber (u .wheelbase)) _ (c .before .before .put-number .ensures)

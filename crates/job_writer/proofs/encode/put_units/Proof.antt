@@ -1,21 +1,14 @@
-use Prim.Native.Nat.{ℕ, _≤_, _-_, _+_}
+-- `job_writer::encode::put_units` meets its contract. Assumes nothing.
+use Prim.Native.Nat.{_≤_, _-_}
 use native.Mathlib.Omega.{arith}
 use borrow.Author.Needs.{needs}
-use mathlib.Core.Path.{_≡_, _∙_, sym, ap, refl}
-use mathlib.Core.List.{List, _++_}
-use lib.ListN.{length, take, drop, getD}
-use Rattle.number.specs.Read.{writeMany}
-use Rattle.number.proofs.ManyLaws.{write-next, write-none}
+use mathlib.Core.Path.{_≡_, refl}
+use lib.ListN.{length, take}
 use Rattle.job.specs.Empty.{emptyUnit}
-use Rattle.job.specs.declared.Unit.{Unit as VehicleUnit}
 use Rattle.job_writer.specs.Write.{writeUnit}
-use Rattle.job_writer.specs.Encoding.{appended}
 use Rattle.job_writer.proofs.AppendLaws.{Run, run-room, run-next, run-end}
 use Rattle.job_writer.proofs.encode.put_units.Statement.{statement}
 use Rattle.job_writer.proofs.encode.put_units.Tie as tie
-use Rattle.job_writer.proofs.encode.put_units.Reads as reads
-use Rattle.job_writer.proofs.encode.put_units.Lts as lts
-use Rattle.job_writer.proofs.encode.put_unit.Reads as put-unit-reads
 
 abbrev Inv-loop : tie.InvT-loop
 Inv-loop count units out₀ i₀ out i = (i ≤ count) × (length units ≡ 4) × Run writeUnit (take count units) out₀ out i
@@ -23,33 +16,26 @@ Inv-loop count units out₀ i₀ out i = (i ≤ count) × (length units ≡ 4) �
 abbrev μ-loop : tie.MeasureT-loop
 μ-loop count units out₀ i₀ out i = count - i
 
--- src/encode.rt:55:5
 loop-holds : tie.Need-loop-holds Inv-loop μ-loop
 loop-holds c = (omega arith, search needs, record { same = refl })
 
--- src/encode.rt:56:17
 mul-u : tie.Need-mul-u Inv-loop μ-loop
 mul-u c = search needs
 
--- src/encode.rt:56:17
 array-copy-out-u : tie.Need-array-copy-out-u Inv-loop μ-loop
 array-copy-out-u c = omega (arith, c .before .before .pre .most)
 
--- src/encode.rt:57:9
 put-unit-requires : tie.Need-put-unit-requires Inv-loop μ-loop
 put-unit-requires c κs = let l = c .before .before .loop in
     let a = c .before .before .before .args in
     run-room writeUnit (a .t2) (a .count) _ (l .out) (l .i) emptyUnit (omega (arith, l .inv .1, c .before .before .before .pre .most)) (c .before .loop-test .taken) (c .before .before .before .pre .ends) (l .inv .2)
 
--- src/encode.rt:58:9
 add-i : tie.Need-add-i Inv-loop μ-loop
 add-i c = search needs
 
--- src/encode.rt:55:5
 loop-less : tie.Need-loop-less Inv-loop μ-loop
 loop-less c = search needs
 
--- src/encode.rt:55:5
 loop-again : tie.Need-loop-again Inv-loop μ-loop
 loop-again c = let l = c .before .before .before .loop in
     let a = c .before .before .before .before .args in (
@@ -58,7 +44,6 @@ loop-again c = let l = c .before .before .before .loop in
       run-next writeUnit (a .t2) (a .count) _ (l .out) (l .i) emptyUnit (omega (arith, l .inv .1, c .before .before .before .before .pre .most)) (c .before .before .loop-test .taken) (c .put-unit .ensures) (l .inv .2),
     )
 
--- src/encode.rt:49:1
 returns : tie.Need-returns Inv-loop μ-loop
 returns c = let l = c .before .loop in
     let a = c .before .before .args in

@@ -1,3 +1,4 @@
+-- `job_writer::encode::put_vehicle` meets its contract. Assumes nothing.
 use Prim.Native.Nat.{ℕ}
 use mathlib.Core.List.{List, _++_}
 use lib.ListN.{take}
@@ -9,35 +10,25 @@ use Rattle.job_writer.proofs.AppendLaws.{join, first, then}
 use borrow.Author.Needs.{needs}
 use Rattle.job_writer.proofs.encode.put_vehicle.Statement.{statement}
 use Rattle.job_writer.proofs.encode.put_vehicle.Tie as tie
-use Rattle.job_writer.proofs.encode.put_vehicle.Reads as reads
-use Rattle.job_writer.proofs.encode.put_vehicle.Lts as lts
-use Rattle.job_writer.proofs.encode.put_number.Reads as put-number-reads
-use Rattle.job_writer.proofs.encode.put_units.Reads as put-units-reads
-use Rattle.job_writer.proofs.encode.put_widths.Reads as put-widths-reads
 
 abbrev units : Vehicle → List ℕ
 units v = writeMany writeUnit (take (v .count) (v .units))
 
--- src/encode.rt:129:27
 cast-put-number : tie.Need-cast-put-number
 cast-put-number c = search needs
 
--- src/encode.rt:129:9
 put-number-requires : tie.Need-put-number-requires
 put-number-requires c κs = let v = c .before .args .v in
     first (writeNumber (v .count)) (units v ++ writeWidths v) _ (c .before .pre .ends)
 
--- src/encode.rt:130:9
 put-units-requires : tie.Need-put-units-requires
 put-units-requires c κs = let v = c .before .before .args .v in
     record { most = c .before .before .pre .most; ends = first (units v) (writeWidths v) _ (then _ (writeNumber (v .count)) _ (c .put-number .ensures) (c .before .before .pre .ends) .ends) .ends }
 
--- src/encode.rt:131:5
 put-widths-requires : tie.Need-put-widths-requires
 put-widths-requires c κs = let v = c .before .before .before .args .v in
     then _ (units v) _ (c .put-units .ensures) (then _ (writeNumber (v .count)) _ (c .before .put-number .ensures) (c .before .before .before .pre .ends) .ends)
 
--- src/encode.rt:123:1
 returns : tie.Need-returns
 returns c = let v = c .before .before .before .before .args .v in
     join _ (writeNumber (v .count)) _ (c .before .before .put-number .ensures) (join _ (units v) _ (c .before .put-units .ensures) (c .put-widths .ensures))
