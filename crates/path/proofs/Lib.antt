@@ -6,3 +6,4 @@ pub mod StoreLaws
 pub mod LeftLaws
 pub mod LayLaws
 pub mod JobLaws
+pub mod Witnesses
