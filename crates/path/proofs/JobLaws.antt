@@ -29,7 +29,7 @@ use Rattle.path.specs.Laying.{PathRuns, roomFor, written, layAnswer, lai
 use Rattle.path.proofs.TotalLaws.{total-count}
 
 -- the total is tested after all elements
-total-allowed : (step t : ℕ) (es : List Element) → faultOf elementFault (tally step) totalFault t es ≡ 0 → stepTotal step t es ≤ 2000
+pub total-allowed : (step t : ℕ) (es : List Element) → faultOf elementFault (tally step) totalFault t es ≡ 0 → stepTotal step t es ≤ 2000
 unfolding faultOf stepTotal
 total-allowed step t [] h = leb-true t 2000 (or-none (stepsAllowed t) 8 0 h .0)
 total-allowed step t (e ∷ es) h = total-allowed step (tally step t e) es (first-none (elementFault t e) (faultOf elementFault (tally step) totalFault (tally step t e) es) h .1)

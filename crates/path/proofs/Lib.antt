@@ -7,3 +7,7 @@ pub mod LeftLaws
 pub mod LayLaws
 pub mod JobLaws
 pub mod Witnesses
+pub mod JoinLaws
+pub mod SoundLaws
+pub mod EntryLaws
+pub mod Tied
