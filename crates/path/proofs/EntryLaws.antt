@@ -1,25 +1,21 @@
 -- What laying wrote, read back entry by entry.
-use Prim.Native.Nat.{ℕ, zero, suc, _+_, _-_, _≤_, _<_}
-use mathlib.Core.Path.{_≡_, refl, sym, _∙_, ap}
-use mathlib.Core.Bool.{Bool, true, false}
-use mathlib.Core.List.{List, [], _∷_, _++_, map}
+use Prim.Native.Nat.{ℕ, _+_, _-_, _≤_, _<_}
+use mathlib.Core.Path.{_≡_, sym, _∙_, ap}
+use mathlib.Core.Bool.{true}
+use mathlib.Core.List.{List, _++_, map}
 use native.Mathlib.Omega.{arith}
-use borrow.Author.Tests.{eqb-true}
-use lib.Dec.{eqb}
 use lib.ListN.{length, drop, getD, length-map, List·getD-append, List·getD-map}
 use lib.Seq.{sets, sets-eq, length-sets, getD-append-add, getD-drop}
 use lib.IntN.{ℤ, pos}
-use Rattle.number.specs.Read.{pick}
 use Rattle.job.specs.declared.Job.{Job}
-use Rattle.job.specs.Faults.{judge}
 use Rattle.path.specs.declared.Station.{Station}
-use Rattle.path.specs.declared.Laid.{Laid}
 use Rattle.path.specs.declared.Laid.the-variants as L
 use Rattle.path.specs.Stations.{stations}
-use Rattle.path.specs.Laying.{PathRuns, roomFor, written, layAnswer, laidRuns, LayEnsures}
+use Rattle.path.specs.Laying.{PathRuns, roomFor, written, LayEnsures}
 use Rattle.path.specs.LaidPath.{noStation, stationAt, entryAt, PathInRuns}
 use Rattle.path.proofs.StoreLaws.{room}
 use Rattle.path.proofs.LayLaws.{SameLengths}
+use Rattle.path.proofs.JobLaws.{stations-answered}
 
 -- values laid over the start of a run
 module _ {A : Type 0} (l vs : List A) (z : A) (i : ℕ) (fits : length vs ≤ length l) where
@@ -70,21 +66,13 @@ module _ (ps : List Station) (r : PathRuns) (fits : roomFor (length ps) r ≡ tr
 pub written-lengths : (ps : List Station) (r : PathRuns) → SameLengths (written ps r) r
 written-lengths ps r = record { xs = simp length-sets; ys = simp length-sets; gxs = simp length-sets; gys = simp length-sets }
 
--- stations were answered: the job has no fault and the runs have room
-stations-answered : (a b : Bool) (f m n : ℕ) → L.Stations n ≡ pick a (pick b (L.Stations m) (L.Refused 21)) (L.Refused f) → (a ≡ true) × (b ≡ true) × (n ≡ m)
-stations-answered true true f m n e = (refl, refl, cc)
-stations-answered true false f m n e = absurd (let z : _≡_ {A = ℕ} 0 1 = cc in omega arith)
-stations-answered false b f m n e = absurd (let z : _≡_ {A = ℕ} 0 1 = cc in omega arith)
-
+-- the stations of a job that was laid
 pub path-in-runs : (j : Job) (before : PathRuns) (n : ℕ) (after : PathRuns) → LayEnsures j before (L.Stations n) after → PathInRuns j before n after
-unfolding layAnswer
 path-in-runs j before n after t =
-    let m = length (stations j) in
-    let s = stations-answered (eqb (judge j) 0) (roomFor m before) (judge j) m n (t .answered) in
-    let w : after ≡ written (stations j) before = t .runs ∙ ap (λ (a : Laid). laidRuns a j before) (sym (t .answered)) in
+    let s = stations-answered j before n after t in
     record {
-      accepted = eqb-true (judge j) 0 (s .0);
+      accepted = s .0;
       count = s .2;
-      entries = λ i h. ap (λ (r : PathRuns). entryAt r i) w ∙ written-entry (stations j) before (s .1) i (omega (arith, s .2));
-      past = λ i h. ap (λ (r : PathRuns). entryAt r i) w ∙ written-past (stations j) before (s .1) i (omega (arith, s .2));
+      entries = λ i h. ap (λ (r : PathRuns). entryAt r i) (s .3) ∙ written-entry (stations j) before (s .1) i (omega (arith, s .2));
+      past = λ i h. ap (λ (r : PathRuns). entryAt r i) (s .3) ∙ written-past (stations j) before (s .1) i (omega (arith, s .2));
     }

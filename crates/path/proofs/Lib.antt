@@ -11,3 +11,4 @@ pub mod JoinLaws
 pub mod SoundLaws
 pub mod EntryLaws
 pub mod Tied
+pub mod Rows
