@@ -4,12 +4,13 @@ use mathlib.Core.Path.{_≡_, refl, sym, _∙_, ap}
 use mathlib.Core.Bool.{Bool, true, false, _&&_}
 use mathlib.Core.List.{List, [], _∷_}
 use native.Mathlib.Omega.{arith}
-use borrow.Author.Tests.{leb-true, eq-eqb, ne-eqb}
+use borrow.Author.Tests.{leb-true, eq-eqb, ne-eqb, eqb-true}
 use lib.Dec.{leb, eqb}
 use lib.ListN.{length, take, getD, length-take}
 use lib.Seq.{getD-take}
 use lib.IntN.{ℤ, pos, natAbs, _*ℤ_}
 use Rattle.exact.specs.Size.{Within}
+use Rattle.number.specs.Read.{pick}
 use Rattle.number.proofs.FieldCodec.{both}
 use Rattle.plane.specs.Length.{Near}
 use Rattle.plane.proofs.Lengths.{near-of}
@@ -23,13 +24,14 @@ use Rattle.job.specs.Faults.{judge, orFault, firstOf, faultOf, elementFault, to
 use Rattle.job.proofs.FaultLaws.{Sound, sound, or-none, first-none, fault-at}
 use Rattle.heading.specs.Turn.{headingLength}
 use Rattle.path.specs.declared.Station.{Station}
+use Rattle.path.specs.declared.Laid.{Laid}
 use Rattle.path.specs.declared.Laid.the-variants as L
 use Rattle.path.specs.Stations.{Step, stepsOn, stepTotal, startStation, nextStation, stationsFrom, stations}
 use Rattle.path.specs.Laying.{PathRuns, roomFor, written, layAnswer, laidRuns, LayEnsures, Accepted}
 use Rattle.path.proofs.TotalLaws.{total-count}
 
 -- the total is tested after all elements
-total-allowed : (step t : ℕ) (es : List Element) → faultOf elementFault (tally step) totalFault t es ≡ 0 → stepTotal step t es ≤ 2000
+pub total-allowed : (step t : ℕ) (es : List Element) → faultOf elementFault (tally step) totalFault t es ≡ 0 → stepTotal step t es ≤ 2000
 unfolding faultOf stepTotal
 total-allowed step t [] h = leb-true t 2000 (or-none (stepsAllowed t) 8 0 h .0)
 total-allowed step t (e ∷ es) h = total-allowed step (tally step t e) es (first-none (elementFault t e) (faultOf elementFault (tally step) totalFault (tally step t e) es) h .1)
@@ -84,3 +86,17 @@ module _ (j : Job) (r : PathRuns) (h : judge j ≡ 0) where
   pub laid-answered : roomFor (length (stations j)) r ≡ true → LayEnsures j r (L.Stations (length (stations j))) (written (stations j) r)
   unfolding layAnswer
   laid-answered e = let z = eq-eqb (judge j) 0 h in record { answered = rw (z, e); runs = rw (z, e) }
+
+-- stations are answered only where the job has no fault and the runs have room
+answered-so : (a b : Bool) (f m n : ℕ) → L.Stations n ≡ pick a (pick b (L.Stations m) (L.Refused 21)) (L.Refused f) → (a ≡ true) × (b ≡ true) × (n ≡ m)
+answered-so true true f m n e = (refl, refl, cc)
+answered-so true false f m n e = absurd (let z : _≡_ {A = ℕ} 0 1 = cc in omega arith)
+answered-so false b f m n e = absurd (let z : _≡_ {A = ℕ} 0 1 = cc in omega arith)
+
+pub stations-answered : (j : Job) (r : PathRuns) (n : ℕ) (q : PathRuns) → LayEnsures j r (L.Stations n) q
+    → (judge j ≡ 0) × (roomFor (length (stations j)) r ≡ true) × (n ≡ length (stations j)) × (q ≡ written (stations j) r)
+unfolding layAnswer
+stations-answered j r n q t =
+    let m = length (stations j) in
+    let s = answered-so (eqb (judge j) 0) (roomFor m r) (judge j) m n (t .answered) in
+    (eqb-true (judge j) 0 (s .0), s .1, s .2, t .runs ∙ ap (λ (a : Laid). laidRuns a j r) (sym (t .answered)))

@@ -6,3 +6,9 @@ pub mod StoreLaws
 pub mod LeftLaws
 pub mod LayLaws
 pub mod JobLaws
+pub mod Witnesses
+pub mod JoinLaws
+pub mod SoundLaws
+pub mod EntryLaws
+pub mod Tied
+pub mod Rows

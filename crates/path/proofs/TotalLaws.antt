@@ -4,7 +4,7 @@ use mathlib.Core.Path.{_≡_, refl, sym, _∙_, ap}
 use mathlib.Core.List.{List, [], _∷_, _++_, map}
 use native.Mathlib.Omega.{arith}
 use native.Mathlib.Numerals.{add-one}
-use lib.ListN.{length, take, drop, getD, length-take, length-append, drop-of-length-le}
+use lib.ListN.{length, take, drop, getD, length-take, length-append, length-map, drop-of-length-le}
 use lib.Seq.{drop-cons, getD-take}
 use Rattle.job.specs.declared.Element.{Element}
 use Rattle.job.specs.Steps.{tally, stepsOf}
@@ -32,12 +32,8 @@ module _ (step total : ℕ) (es : List Element) (n i : ℕ) where
   total-end h = rw (taken-end es n i h)
 
 -- as many as there are steps
-map-length : {A B : Type 0} (f : A → B) (xs : List A) → length (map f xs) ≡ length xs
-map-length f [] = refl
-map-length f (x ∷ xs) = ap suc (map-length f xs)
-
 pub unmapped : {A B : Type 0} (f : A → B) (xs : List A) (n : ℕ) → length (map f xs) ≡ n → length xs ≡ n
-unmapped f xs n e = sym (map-length f xs) ∙ e
+unmapped f xs n e = sym (length-map xs f) ∙ e
 
 pub total-count : (step total : ℕ) (es : List Element) → stepTotal step total es ≡ total + length (stepsOn step es)
 unfolding stepTotal stepsOn
@@ -45,7 +41,7 @@ total-count step total [] = omega arith
 total-count step total (e ∷ es) =
     let f : Cut → Step = λ c. record { curve = e .curve; cut = c } in
     let k : length (map f (cuts step (e .length)) ++ stepsOn step es) ≡ stepsOf step (e .length) + length (stepsOn step es) =
-    length-append (map f (cuts step (e .length))) (stepsOn step es) ∙ ap (λ (a : ℕ). a + length (stepsOn step es)) (map-length f (cuts step (e .length)) ∙ cuts-count step (e .length)) in
+    length-append (map f (cuts step (e .length))) (stepsOn step es) ∙ ap (λ (a : ℕ). a + length (stepsOn step es)) (length-map (cuts step (e .length)) f ∙ cuts-count step (e .length)) in
     total-count step (tally step total e) es ∙ omega (arith, k)
 
 pub total-grows : (step total : ℕ) (es : List Element) → total ≤ stepTotal step total es

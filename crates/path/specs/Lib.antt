@@ -2,3 +2,4 @@ pub mod Cuts
 pub mod Stations
 pub mod Cursor
 pub mod Laying
+pub mod LaidPath

@@ -7,6 +7,7 @@ use plane::Vec2;
 ghost use mathlib.Core.Path.{_≡_};
 ghost use Rattle.path.specs.Stations.{startStation, stationAfter, stepTotal};
 ghost use Rattle.path.specs.Laying.{pathRuns, written, stored, stationsOver, Storable, Accepted, Layable, LayEnsures};
+ghost use Rattle.path.specs.LaidPath.{LaidPath};
 ghost use lib.ListN.{take};
 ghost use Rattle.path.specs.Cursor.{leastOf, cursorAfter, Reachable, OnElement};
 
@@ -176,3 +177,8 @@ pub fn lay(j: Job, xs: &mut [i32], ys: &mut [i32], gxs: &mut [i32], gys: &mut [i
     }
     Laid::Refused(21)
 }
+
+// Every station of a job without a fault is sound, and laying leaves the runs with them. (A claim: it runs nothing.)
+pub fn laid_path()
+    ensures { λ _. ⌜ LaidPath ⌝ }
+{}

@@ -1,0 +1,54 @@
+-- `path_trials::root_above` is safe and ends.
+use native.Mathlib.Nat as NatL
+use borrow.Author.Needs.{needs}
+use native.Mathlib.Omega.{arith}
+use Prim.Native.Nat.{ℕ, _-_, _≤_, _*_}
+use Rattle.path_trials.proofs.root_above.Statement.{statement}
+use Rattle.path_trials.proofs.root_above.Tie as tie
+
+abbrev Inv-loop : tie.InvT-loop
+Inv-loop n d₀ d = d ≤ 1000
+
+abbrev μ-loop : tie.MeasureT-loop
+μ-loop n d₀ d = 1000 - d
+
+loop-holds : tie.Need-loop-holds Inv-loop μ-loop
+loop-holds c = search needs
+
+mul-wide : tie.Need-mul-wide Inv-loop μ-loop
+mul-wide c =
+    let h : c .before .loop .d ≤ 999 = omega arith in
+    record { fits = omega (arith, NatL.mul-le-mul h h) }
+
+wide-requires : tie.Need-wide-requires Inv-loop μ-loop
+wide-requires c κs = search needs
+
+returns : tie.Need-returns Inv-loop μ-loop
+returns c = search needs
+
+add-d : tie.Need-add-d Inv-loop μ-loop
+add-d c = search needs
+
+loop-less : tie.Need-loop-less Inv-loop μ-loop
+loop-less c = search needs
+
+loop-again : tie.Need-loop-again Inv-loop μ-loop
+loop-again c = search needs
+
+returns-2 : tie.Need-returns-2 Inv-loop μ-loop
+returns-2 c = search needs
+
+pub root-above-spec : {M : Type 1} → statement M
+root-above-spec =
+    tie.close
+    (tie.spec
+    Inv-loop
+    μ-loop
+    loop-holds
+    mul-wide
+    wide-requires
+    returns
+    add-d
+    loop-less
+    loop-again
+    returns-2)
