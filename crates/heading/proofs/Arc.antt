@@ -1,13 +1,10 @@
 -- On an arc the paper's formula is the turn by the half-angle tangent s / (2|r|), which is at most one half.
-use mathlib.Core.Path.{_≡_, refl, sym, _∙_, ap, ap₂}
+use mathlib.Core.Path.{_≡_, refl, ap₂}
 use mathlib.Core.List.{List, [], _∷_}
-use Prim.Native.Nat.{ℕ, zero, suc, _*_}
-use lib.IntN.{ℤ, pos, negsuc, negℤ, natAbs, _+ℤ_, _-ℤ_, _*ℤ_}
-use Rattle.exact.proofs.Polynomial.{Expr, _⊕_, _⊖_, _⊗_, _⊜_, neg, con, lit, var, ring}
-use Rattle.plane.specs.declared.Vec2.{Vec2}
-use Rattle.plane.specs.Vector.{plus, times, rightNormal}
-use Rattle.plane.specs.Drawn.{drawn}
-use Rattle.heading.specs.Turn.{headingLength, rotated, rotationScale, turnedBy, arcTurn, headingAfter, tangentOf, ArcRule}
+use Prim.Native.Nat.{zero, suc, _*_}
+use lib.IntN.{ℤ, pos, negsuc, negℤ, _+ℤ_, _-ℤ_, _*ℤ_}
+use Rattle.exact.proofs.Polynomial.{Expr, _⊕_, _⊖_, _⊗_, neg, con, lit, var, ring}
+use Rattle.heading.specs.Turn.{drawnHeading, ArcRule}
 
 -- the formula with radius r and normal n, against the tangent p / (2a)
 module _ (x y s a : ℤ) where
@@ -43,8 +40,8 @@ arc-is-tangent g s (pos zero) h = absurd (h refl)
 arc-is-tangent g s (pos (suc r)) h =
     let ex = right-x (g .x) (g .y) s (pos (suc r)) in
     let ey = right-x (g .y) (negℤ (g .x)) s (pos (suc r)) in
-    ap₂ (λ (w : Vec2) (q : ℤ). drawn w q headingLength) (λ i. record { x = ex i; y = ey i }) (right-scale (g .x) (g .y) s (pos (suc r)))
+    ap₂ drawnHeading (λ i. record { x = ex i; y = ey i }) (right-scale (g .x) (g .y) s (pos (suc r)))
 arc-is-tangent g s (negsuc r) h =
     let ex = left-x (g .x) (g .y) s (pos (suc r)) in
     let ey = left-x (g .y) (negℤ (g .x)) s (pos (suc r)) in
-    ap₂ (λ (w : Vec2) (q : ℤ). drawn w q headingLength) (λ i. record { x = ex i; y = ey i }) (left-scale (g .x) (g .y) s (pos (suc r)))
+    ap₂ drawnHeading (λ i. record { x = ex i; y = ey i }) (left-scale (g .x) (g .y) s (pos (suc r)))

@@ -2,11 +2,11 @@
 use mathlib.Core.Path.{_≡_}
 use mathlib.Core.List.{List, [], _∷_}
 use lib.Dec.{lit≤}
-use lib.IntN.{ℤ, pos, negsuc, negℤ, natAbs, _+ℤ_, _-ℤ_, _*ℤ_}
+use lib.IntN.{ℤ, pos, natAbs, _*ℤ_}
 use lib.Signed.{_≤ℤ_}
 use native.Mathlib.Omega.{arith}
 use Rattle.exact.specs.Size.{Within}
-use Rattle.exact.proofs.Polynomial.{Expr, _⊕_, _⊖_, _⊗_, _⊜_, neg, lit, var, ring4}
+use Rattle.exact.proofs.Polynomial.{_⊕_, _⊖_, _⊗_, _⊜_, neg, lit, var, ring4}
 use Rattle.exact.proofs.Order.{pos-≤, ≤-pos}
 use Rattle.exact.proofs.Certificate.{_⊞_, _⊠_, _·_, num, sq, hyp, le}
 use Rattle.exact.proofs.Sizes.{within}

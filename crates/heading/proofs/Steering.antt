@@ -1,14 +1,14 @@
 -- A step that was tested turns by a tangent of at most one half, and keeps the heading's length.
 use mathlib.Core.Path.{_≡_, refl, sym, _∙_, ap, ap₂, subst}
 use mathlib.Core.Bool.{true, false}
-use mathlib.Core.List.{List, [], _∷_}
+use mathlib.Core.List.{[], _∷_}
 use Prim.Native.Nat.{ℕ, zero, suc, _≤_, _*_}
 use native.Mathlib.Omega.{arith}
 use borrow.Author.Tests.{leb-true, ltb-false, lt-ltb}
 use lib.Dec.{leb, ltb→lt, lit≤}
 use native.Mathlib.Nat as NatL
 use lib.IntN.{ℤ, pos, negsuc, negℤ, natAbs, _+ℤ_, _-ℤ_, _*ℤ_, +ℤ-idl}
-use lib.Signed.{_≤ℤ_, ltZ, yes-nonNeg, pos-natAbs}
+use lib.Signed.{_≤ℤ_, ltZ}
 use Rattle.exact.proofs.Order.{of-true, of-false, pos-≤, ≤-pos}
 use Rattle.exact.specs.Size.{Within}
 use Rattle.exact.proofs.NearestLaws.{nearest-bounded}

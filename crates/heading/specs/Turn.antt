@@ -1,9 +1,8 @@
 -- The turn of a heading (01, "Laying the path").
 use mathlib.Core.Path.{_≡_}
-use Prim.Native.Nat.{ℕ, zero, suc}
+use Prim.Native.Nat.{zero, suc}
 use lib.IntN.{ℤ, pos, negsuc, negℤ, natAbs, _+ℤ_, _-ℤ_, _*ℤ_}
 use lib.Signed.{_≤ℤ_}
-use Rattle.exact.specs.Size.{Within}
 use Rattle.plane.specs.declared.Vec2.{Vec2}
 use Rattle.plane.specs.Vector.{plus, times, rightNormal, nearestV}
 use Rattle.plane.specs.Length.{Near}
@@ -20,9 +19,12 @@ rotated g p q = plus (times g (q *ℤ q -ℤ p *ℤ p)) (times (rightNormal g) (
 abbrev pub rotationScale : ℤ → ℤ → ℤ
 rotationScale p q = q *ℤ q +ℤ p *ℤ p
 
--- it is drawn as every turn: nearest by coordinate, then settled to N
+-- a heading is drawn as every turn is: nearest by coordinate, then settled to N
+abbrev pub drawnHeading : Vec2 → ℤ → Vec2
+drawnHeading w q = drawn w q headingLength
+
 abbrev pub turnedBy : Vec2 → ℤ → ℤ → Vec2
-turnedBy g p q = drawn (rotated g p q) (rotationScale p q) headingLength
+turnedBy g p q = drawnHeading (rotated g p q) (rotationScale p q)
 
 -- what it asks: a heading, and a tangent of at most one half to either side
 pub record Tangent (g : Vec2) (p q : ℤ) : Type 0 where
@@ -34,7 +36,7 @@ pub record Tangent (g : Vec2) (p q : ℤ) : Type 0 where
 -- g' = ((4r² − s²)g + 4·|r|·s·n) / (4r² + s²) for a step of length s on an arc of radius r, nearest by coordinate, then settled to N
 abbrev pub arcTurn : Vec2 → ℤ → ℤ → Vec2 → Vec2
 arcTurn g s r n =
-    drawn (plus (times g (pos 4 *ℤ (r *ℤ r) -ℤ s *ℤ s)) (times n (pos 4 *ℤ pos (natAbs r) *ℤ s))) (pos 4 *ℤ (r *ℤ r) +ℤ s *ℤ s) headingLength
+    drawnHeading (plus (times g (pos 4 *ℤ (r *ℤ r) -ℤ s *ℤ s)) (times n (pos 4 *ℤ pos (natAbs r) *ℤ s))) (pos 4 *ℤ (r *ℤ r) +ℤ s *ℤ s)
 
 -- n is the right-hand normal of g for r > 0 and its opposite for r < 0; on a straight g' = g
 abbrev pub headingAfter : Vec2 → ℤ → ℤ → Vec2

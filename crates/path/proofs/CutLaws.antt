@@ -1,7 +1,7 @@
 -- The cuts of an element, one at a time: from b ticks on, a full step while there is one, then what is left.
 use Prim.Native.Nat.{ℕ, zero, suc, _+_, _*_, _-_, _/_, _%_, _≤_, _<_}
-use mathlib.Core.Path.{_≡_, refl, sym, _∙_, ap, ap₂}
-use mathlib.Core.List.{List, [], _∷_, _++_}
+use mathlib.Core.Path.{_≡_, refl, _∙_, ap, ap₂}
+use mathlib.Core.List.{[], _∷_, _++_}
 use native.Mathlib.Nat as NatL
 use native.Mathlib.Omega.{arith}
 use native.Mathlib.Numerals.{add-one}
@@ -10,7 +10,7 @@ use lib.ListN.{length, length-append}
 use borrow.Author.Tests.{ne-eqb}
 use Rattle.number.specs.Read.{pick}
 use Rattle.job.specs.Steps.{stepsOf}
-use Rattle.path.specs.Cuts.{Cut, cut, fullSteps, shorterStep, cutsFrom, cuts}
+use Rattle.path.specs.Cuts.{cut, fullSteps, shorterStep, cutsFrom, cuts}
 
 -- one more full step
 full-next : (step b q r : ℕ) → fullSteps step (suc q) b ++ shorterStep r (b + suc q * step) ≡ cut b step ∷ (fullSteps step q (b + step) ++ shorterStep r (b + step + q * step))

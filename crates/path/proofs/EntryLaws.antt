@@ -12,7 +12,7 @@ use Rattle.path.specs.declared.Station.{Station}
 use Rattle.path.specs.declared.Laid.the-variants as L
 use Rattle.path.specs.Stations.{stations}
 use Rattle.path.specs.Laying.{PathRuns, roomFor, written, LayEnsures}
-use Rattle.path.specs.LaidPath.{noStation, stationAt, entryAt, PathInRuns}
+use Rattle.path.specs.LaidPath.{noStation, entryAt, PathInRuns}
 use Rattle.path.proofs.StoreLaws.{room}
 use Rattle.path.proofs.LayLaws.{SameLengths}
 use Rattle.path.proofs.JobLaws.{stations-answered}

@@ -1,5 +1,5 @@
 -- A job without a fault can be laid; and the three answers of laying.
-use Prim.Native.Nat.{ℕ, zero, suc, _+_, _≤_, _<_}
+use Prim.Native.Nat.{ℕ, suc, _+_, _≤_}
 use mathlib.Core.Path.{_≡_, refl, sym, _∙_, ap}
 use mathlib.Core.Bool.{Bool, true, false, _&&_}
 use mathlib.Core.List.{List, [], _∷_}
@@ -17,11 +17,11 @@ use Rattle.plane.proofs.Lengths.{near-of}
 use Rattle.job.specs.declared.Element.{Element}
 use Rattle.job.specs.declared.Start.{Start}
 use Rattle.job.specs.declared.Job.{Job}
-use Rattle.job.specs.Allowed.{elementAllowed, headingAllowed, coordinateAllowed, startAllowed, stepAllowed, elementCountAllowed}
+use Rattle.job.specs.Allowed.{elementAllowed, headingAllowed, coordinateAllowed, startAllowed}
 use Rattle.job.specs.Steps.{tally, stepsAllowed}
 use Rattle.job.specs.Empty.{emptyElement}
-use Rattle.job.specs.Faults.{judge, orFault, firstOf, faultOf, elementFault, totalFault, elementsFault}
-use Rattle.job.proofs.FaultLaws.{Sound, sound, or-none, first-none, fault-at}
+use Rattle.job.specs.Faults.{judge, orFault, faultOf, elementFault, totalFault, elementsFault}
+use Rattle.job.proofs.FaultLaws.{sound, or-none, first-none, fault-at}
 use Rattle.heading.specs.Turn.{headingLength}
 use Rattle.path.specs.declared.Station.{Station}
 use Rattle.path.specs.declared.Laid.{Laid}

@@ -1,6 +1,6 @@
 -- Laying station by station: what is left to write, over what is written, is the whole path.
-use Prim.Native.Nat.{ℕ, zero, suc, _+_, _*_, _-_, _≤_, _<_}
-use mathlib.Core.Path.{_≡_, refl, sym, _∙_, ap, subst}
+use Prim.Native.Nat.{ℕ, _+_, _*_, _-_, _≤_, _<_}
+use mathlib.Core.Path.{_≡_, refl, sym, _∙_, ap}
 use mathlib.Core.Bool.{Bool, true, false}
 use mathlib.Core.List.{List, [], _∷_, map}
 use native.Mathlib.Omega.{arith}
@@ -8,7 +8,7 @@ use native.Mathlib.Numerals.{add-one}
 use native.Mathlib.Decide.{decLe}
 use borrow.Author.Tests.{leb-true, ltb-true, le-leb}
 use lib.Dec.{leb, ltb}
-use lib.ListN.{length, take, getD, set, length-set, length-take}
+use lib.ListN.{length, take, getD, length-set, length-take}
 use lib.Seq.{sets, getD-take}
 use lib.IntN.{ℤ, pos, _*ℤ_}
 use Rattle.exact.specs.Size.{Within}
@@ -23,7 +23,7 @@ use Rattle.heading.specs.Turn.{headingLength}
 use Rattle.path.specs.declared.Station.{Station}
 use Rattle.path.specs.declared.PathCursor.{PathCursor}
 use Rattle.path.specs.Stations.{Step, stepsOn, stationAfter, nextStation, stationsFrom}
-use Rattle.path.specs.Cursor.{stepLength, cursorAfter, onto, OnElement}
+use Rattle.path.specs.Cursor.{stepLength, cursorAfter, OnElement}
 use Rattle.path.specs.Laying.{PathRuns, written, stored, roomFor, Storable, Layable}
 use Rattle.path.proofs.StationLaws.{heading-kept, position-within}
 use Rattle.path.proofs.StoreLaws.{room}

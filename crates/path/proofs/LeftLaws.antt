@@ -1,10 +1,10 @@
 -- The steps that are left to a cursor: one at a time, and none past the last element.
-use Prim.Native.Nat.{ℕ, zero, suc, _+_, _-_, _≤_, _<_}
+use Prim.Native.Nat.{ℕ, _+_, _-_, _≤_, _<_}
 use mathlib.Core.Path.{_≡_, refl, sym, _∙_, ap}
 use mathlib.Core.Bool.{Bool, true, false}
 use mathlib.Core.List.{List, [], _∷_, _++_, map}
 use native.Mathlib.Omega.{arith}
-use borrow.Author.Tests.{leb-true, leb-false, lt-ltb, le-ltb, ltb-true, ltb-false}
+use borrow.Author.Tests.{leb-true, leb-false, ltb-false}
 use lib.Dec.{leb, ltb}
 use lib.ListN.{length, drop, getD, drop-of-length-le}
 use lib.Seq.{drop-cons}
@@ -15,9 +15,9 @@ use Rattle.job.specs.declared.Curve.{Curve}
 use Rattle.job.specs.Empty.{emptyElement}
 use Rattle.path.specs.declared.Station.{Station}
 use Rattle.path.specs.declared.PathCursor.{PathCursor}
-use Rattle.path.specs.Cuts.{Cut, cut, cutsFrom, cuts}
-use Rattle.path.specs.Stations.{Step, stepsOn, nextStation, stationAfter}
-use Rattle.path.specs.Cursor.{leastOf, stepLength, onto, cursorAfter}
+use Rattle.path.specs.Cuts.{Cut, cut, cutsFrom}
+use Rattle.path.specs.Stations.{Step, stepsOn, stationAfter}
+use Rattle.path.specs.Cursor.{leastOf, stepLength, cursorAfter}
 use Rattle.path.proofs.CutLaws.{cuts-full, cuts-last, cuts-none}
 
 abbrev on : Curve → Cut → Step

@@ -1,5 +1,4 @@
 -- Cases of laying that are easily got wrong: a remainder comes last, an arc of radius 0 is a fault, and unused elements are never read.
-use Prim.Native.Nat.{ℕ}
 use mathlib.Core.Path.{_≡_, refl, _∙_, ap}
 use mathlib.Core.List.{List, [], _∷_}
 use lib.ListN.{take, set}

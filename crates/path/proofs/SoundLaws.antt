@@ -1,7 +1,7 @@
 -- Every station of a job without a fault is sound: each step is on a curve that was let pass and is no longer than the job's step.
 use Prim.Native.Nat.{ℕ, zero, suc, _+_, _*_, _/_, _%_, _≤_, _<_}
-use mathlib.Core.Path.{_≡_, refl, sym, _∙_, ap, subst}
-use mathlib.Core.Bool.{Bool, true}
+use mathlib.Core.Path.{_≡_, refl, sym, subst}
+use mathlib.Core.Bool.{true}
 use mathlib.Core.List.{List, [], _∷_, _++_, map, map-append}
 use native.Mathlib.Omega.{arith}
 use native.Mathlib.Nat as NatL
@@ -24,9 +24,9 @@ use Rattle.job.proofs.FaultLaws.{sound, or-none, first-none}
 use Rattle.heading.specs.Turn.{headingLength}
 use Rattle.path.specs.declared.Station.{Station}
 use Rattle.path.specs.Cuts.{Cut, cut, fullSteps, shorterStep, cutsFrom, cuts}
-use Rattle.path.specs.Stations.{Step, stepsOn, stepTotal, nextStation, stationsFrom, startStation, stations}
+use Rattle.path.specs.Stations.{Step, stepsOn, nextStation, stationsFrom, startStation, stations}
 use Rattle.path.specs.Cursor.{Reachable}
-use Rattle.path.specs.LaidPath.{SoundStation, SoundPath, noStation, stationAt}
+use Rattle.path.specs.LaidPath.{SoundStation, SoundPath, noStation}
 use Rattle.path.proofs.StationLaws.{heading-kept, position-within}
 use Rattle.path.proofs.TotalLaws.{total-count}
 use Rattle.path.proofs.JobLaws.{total-allowed, start-sound, stations-length, stations-count}

@@ -1,9 +1,9 @@
 -- From one station to the next: the step can be made, the heading is kept, and no coordinate moves farther than the step.
-use mathlib.Core.Path.{_≡_, refl, sym, _∙_, ap}
-use mathlib.Core.Bool.{Bool, true, false}
+use mathlib.Core.Path.{_≡_, refl}
+use mathlib.Core.Bool.{true}
 use Prim.Native.Nat.{ℕ, zero, suc, _+_, _≤_}
 use native.Mathlib.Omega.{arith}
-use lib.IntN.{ℤ, pos, negsuc, negℤ, _+ℤ_, _*ℤ_}
+use lib.IntN.{ℤ, pos, _*ℤ_}
 use Rattle.exact.specs.Size.{Within}
 use Rattle.exact.proofs.Order.{pos-≤}
 use Rattle.exact.proofs.Sizes.{within-add, within-more}

@@ -4,7 +4,6 @@ use mathlib.Core.Path.{_≡_}
 use mathlib.Core.Bool.{true}
 use lib.Dec.{leb, ltb}
 use lib.IntN.{ℤ, pos, _*ℤ_}
-use Rattle.exact.specs.Size.{Within}
 use Rattle.number.specs.Read.{pick}
 use Rattle.plane.specs.Vector.{Moderate}
 use Rattle.plane.specs.Length.{Near}

@@ -5,7 +5,6 @@ use mathlib.Core.Bool.{true}
 use lib.ListN.{length, take, getD}
 use lib.IntN.{pos}
 use Rattle.exact.specs.Size.{Within}
-use Rattle.plane.specs.declared.Vec2.{Vec2}
 use Rattle.plane.specs.Length.{hasLength}
 use Rattle.job.specs.declared.Job.{Job}
 use Rattle.job.specs.Faults.{judge}

@@ -1,8 +1,8 @@
 -- Laying a path into four lent runs (01, "Why a job is turned down": "Laying a path tests 3 to 9 likewise, then 21").
-use Prim.Native.Nat.{ℕ, zero, suc, _+_, _≤_, _<_}
+use Prim.Native.Nat.{ℕ, _+_, _≤_, _<_}
 use mathlib.Core.Path.{_≡_}
-use mathlib.Core.List.{List, [], _∷_, map}
-use mathlib.Core.Bool.{Bool, true, false, _&&_}
+use mathlib.Core.List.{List, _∷_, map}
+use mathlib.Core.Bool.{Bool, true, _&&_}
 use lib.ListN.{length, set, take, getD}
 use lib.Seq.{sets}
 use lib.Dec.{leb, eqb}

@@ -2,8 +2,7 @@
 use Prim.Native.Nat.{ℕ}
 use mathlib.Core.List.{List, [], _∷_, _++_, map}
 use lib.ListN.{take}
-use lib.IntN.{ℤ, pos}
-use Rattle.plane.specs.declared.Vec2.{Vec2}
+use lib.IntN.{pos}
 use Rattle.plane.specs.Vector.{plus}
 use Rattle.job.specs.declared.Curve.{Curve}
 use Rattle.job.specs.declared.Element.{Element}

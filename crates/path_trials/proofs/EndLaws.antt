@@ -1,10 +1,9 @@
 -- The end of a path from what laying ensures, and the sizes in measuring from it.
-use Prim.Native.Nat.{ℕ, _+_, _-_, _≤_, _<_}
+use Prim.Native.Nat.{ℕ, _-_, _≤_, _<_}
 use mathlib.Core.Path.{_≡_, refl, sym, _∙_, ap, subst}
 use native.Mathlib.Omega.{arith}
 use lib.ListN.{length, getD}
-use lib.IntN.{ℤ, pos}
-use Rattle.exact.specs.Size.{Within}
+use lib.IntN.{pos}
 use Rattle.exact.proofs.Sizes.{within-more, within-sub}
 use Rattle.plane.specs.declared.Vec2.{Vec2}
 use Rattle.plane.specs.Vector.{minus, Moderate, BothModerate}
@@ -20,7 +19,6 @@ use Rattle.path.proofs.LayLaws.{SameLengths}
 use Rattle.path.proofs.JobLaws.{stations-count, stations-answered}
 use Rattle.path.proofs.EntryLaws.{path-in-runs, written-lengths}
 use Rattle.path.proofs.SoundLaws.{sound-path}
-use Rattle.path_trials.specs.declared.PathEnd.{PathEnd}
 use Rattle.path_trials.specs.Ends.{endOf, Measurable, BothMeasurable}
 
 -- stations were answered

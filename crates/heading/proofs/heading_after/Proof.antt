@@ -1,12 +1,11 @@
 -- `heading::heading_after` meets its contract, by the sign of the radius.
 use mathlib.Core.Path.{_≡_, sym, _∙_, ap₂, subst₂}
-use mathlib.Core.List.{List, [], _∷_}
-use mathlib.Core.Bool.{true, false}
-use lib.IntN.{ℤ, pos, _-ℤ_, _*ℤ_}
+use mathlib.Core.List.{[], _∷_}
+use mathlib.Core.Bool.{true}
+use lib.IntN.{pos}
 use lib.Signed.{ltZ}
-use borrow.Author.Needs.{needs}
 use Rattle.exact.proofs.Polynomial.{Expr, var, lit, _⊖_, _⊗_}
-use Rattle.exact.proofs.Machine.{Bounded, reread, computed, fits, held}
+use Rattle.exact.proofs.Machine.{Bounded, fits, held}
 use Rattle.heading.specs.Turn.{turnedBy, Tangent}
 use Rattle.heading.proofs.Steering.{steering-bounds, right-tangent, right-heading, left-tangent, left-heading, straight-heading}
 use Rattle.heading.proofs.heading_after.Statement.{statement}

@@ -1,8 +1,8 @@
 -- `heading::move_along` meets its contract.
-use mathlib.Core.Path.{_≡_, _∙_, ap}
-use mathlib.Core.List.{List, [], _∷_}
+use mathlib.Core.Path.{_∙_, ap}
+use mathlib.Core.List.{[], _∷_}
 use borrow.Author.Needs.{needs}
-use lib.IntN.{ℤ, pos}
+use lib.IntN.{pos}
 use Rattle.exact.proofs.Polynomial.{Expr, var, _⊕_, _⊗_}
 use Rattle.exact.proofs.Machine.{Bounded, fits, held}
 use Rattle.plane.specs.declared.Vec2.{Vec2}

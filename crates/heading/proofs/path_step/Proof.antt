@@ -1,9 +1,7 @@
 -- `heading::path_step` meets its contract.
-use mathlib.Core.Path.{_≡_, sym, _∙_, ap, ap₂, subst₂}
+use mathlib.Core.Path.{_≡_, sym, _∙_, ap₂, subst₂}
 use borrow.Author.Needs.{needs}
-use lib.IntN.{ℤ}
 use Rattle.exact.proofs.Machine.{reread}
-use Rattle.plane.specs.declared.Vec2.{Vec2}
 use Rattle.heading.specs.Turn.{headingAfter, moveOf}
 use Rattle.heading.specs.PathTurn.{Movable}
 use Rattle.heading.proofs.Steering.{after-near}

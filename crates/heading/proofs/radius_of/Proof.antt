@@ -1,15 +1,12 @@
 -- `heading::radius_of` meets its contract, case by case.
-use mathlib.Core.Path.{_≡_, sym, _∙_, ap, subst}
+use mathlib.Core.Path.{_≡_, _∙_, subst}
 use borrow.Author.Needs.{needs}
-use native.Mathlib.Omega.{arith}
-use lib.IntN.{ℤ, pos, negℤ, _-ℤ_, +ℤ-idl}
+use lib.IntN.{pos, negℤ, _-ℤ_, +ℤ-idl}
 use mir.Syntax.{w64}
 use mir.Val.{SFits}
 use mir.Facts.{toZ-ofZ}
 use Rattle.exact.proofs.Machine.{reread}
-use Rattle.exact.proofs.Sizes.{fits64}
 use Rattle.heading.proofs.Steering.{minus-fits}
-use Rattle.job.specs.Curves.{radiusOf}
 use Rattle.heading.proofs.radius_of.Statement.{statement}
 use Rattle.heading.proofs.radius_of.Tie as tie
 

@@ -1,7 +1,7 @@
 -- `heading::turn_heading` meets its contract: by the sizes of the heading and the tangent nothing overflows.
 use mathlib.Core.Path.{_≡_, sym, _∙_, ap₂, subst₂}
 use mathlib.Core.List.{List, [], _∷_}
-use lib.IntN.{ℤ, pos, negℤ, _+ℤ_, _-ℤ_, _*ℤ_}
+use lib.IntN.{ℤ}
 use Rattle.exact.proofs.Polynomial.{Expr, var, lit, neg, _⊕_, _⊖_, _⊗_, ring}
 use Rattle.exact.proofs.Machine.{Bounded, reread, computed, fits, held}
 use Rattle.plane.specs.declared.Vec2.{Vec2}

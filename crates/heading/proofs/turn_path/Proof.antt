@@ -1,10 +1,10 @@
 -- `heading::turn_path` meets its contract, refusal by refusal.
-use mathlib.Core.Path.{_≡_, sym, _∙_, ap, ap₂, subst₂}
-use mathlib.Core.Bool.{true, false}
+use mathlib.Core.Path.{_≡_, sym, _∙_, ap, subst₂}
+use mathlib.Core.Bool.{true}
 use borrow.Author.Needs.{needs}
 use borrow.Author.Tests.{not-true, not-false, leb-true}
 use lib.Dec.{leb}
-use lib.IntN.{ℤ, pos}
+use lib.IntN.{pos}
 use mir.Syntax.{w32, w64}
 use mir.Val.{toZ, ofZ}
 use mir.Facts.{toZ-ofZ}
@@ -16,7 +16,7 @@ use Rattle.plane.proofs.Lengths.{near-of}
 use Rattle.job.specs.Allowed.{between}
 use Rattle.job.specs.Curves.{radiusAllowed}
 use Rattle.heading.specs.Turn.{headingLength}
-use Rattle.heading.specs.PathTurn.{advanceOf, pathTurn, Steerable}
+use Rattle.heading.specs.PathTurn.{pathTurn, Steerable}
 use Rattle.heading.proofs.turn_path.Statement.{statement}
 use Rattle.heading.proofs.turn_path.Tie as tie
 

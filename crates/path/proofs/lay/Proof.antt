@@ -1,18 +1,17 @@
 -- `path::lay` meets its contract, answer by answer.
 use Prim.Native.Nat.{ℕ, _+_}
-use mathlib.Core.Path.{_≡_, refl, sym, _∙_, ap, subst, subst₂}
+use mathlib.Core.Path.{_≡_, sym, _∙_, ap, subst, subst₂}
 use mathlib.Core.Bool.{true, false}
-use mathlib.Core.List.{List}
 use native.Mathlib.Omega.{arith}
 use borrow.Author.Needs.{needs}
-use lib.ListN.{length, take}
+use lib.ListN.{length}
 use denote.Ref.{now}
 use Rattle.job.specs.Faults.{judge}
 use Rattle.job.specs.declared.Job.{Job}
 use Rattle.job.proofs.FaultLaws.{sound}
 use Rattle.path.specs.declared.Station.{Station}
 use Rattle.path.specs.declared.Laid.the-variants as L
-use Rattle.path.specs.Stations.{stepTotal, startStation, stations}
+use Rattle.path.specs.Stations.{startStation, stations}
 use Rattle.path.specs.Laying.{PathRuns, pathRuns, roomFor, written, stationsOver, Layable, LayEnsures}
 use Rattle.path.proofs.TotalLaws.{unmapped}
 use Rattle.path.proofs.JobLaws.{accepted, start-sound, stations-count, fault-answered, no-room-answered, laid-answered}

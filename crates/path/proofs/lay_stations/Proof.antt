@@ -1,5 +1,5 @@
 -- `path::lay_stations` meets its contract.
-use Prim.Native.Nat.{ℕ, _+_, _-_, _≤_, _<_}
+use Prim.Native.Nat.{ℕ, _+_, _-_, _≤_}
 use mathlib.Core.Path.{_≡_, refl, sym, _∙_, ap, subst}
 use mathlib.Core.List.{List}
 use native.Mathlib.Omega.{arith}
@@ -14,11 +14,9 @@ use Rattle.exact.proofs.Sizes.{within-more}
 use Rattle.job.specs.declared.Element.{Element}
 use Rattle.job.specs.Empty.{emptyElement}
 use Rattle.path.specs.declared.PathCursor.{PathCursor}
-use Rattle.path.specs.declared.Station.{Station}
 use Rattle.path.specs.Stations.{stepsOn, stationsFrom}
 use Rattle.path.specs.Cursor.{cursorAfter, OnElement}
-use Rattle.path.specs.Laying.{PathRuns, pathRuns, roomFor, written, stored, stationsOver, Storable, Layable}
-use Rattle.path.proofs.TotalLaws.{total-count}
+use Rattle.path.specs.Laying.{PathRuns, pathRuns, roomFor, written, stored, Storable}
 use Rattle.path.proofs.LayLaws.{writtenAt, written-next, SameLengths, stored-lengths, room-for-fewer, Laying, laying-start, laying-next, laying-end, storable-next, on-path, on-element, Usable, usable}
 use Rattle.path.proofs.lay_stations.Statement.{statement}
 use Rattle.path.proofs.lay_stations.Tie as tie

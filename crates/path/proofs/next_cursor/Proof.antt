@@ -1,14 +1,11 @@
 -- `path::next_cursor` meets its contract.
-use mathlib.Core.Path.{_≡_, sym, _∙_, ap, subst}
-use Prim.Native.Nat.{ℕ, _+_}
+use mathlib.Core.Path.{_≡_, sym, subst}
 use borrow.Author.Needs.{needs}
 use borrow.Author.Tests.{lt-ltb, le-ltb}
 use native.Mathlib.Omega.{arith}
 use mir.Syntax.{w32}
 use mir.Val.{Fits}
-use Rattle.path.specs.declared.Station.{Station}
-use Rattle.path.specs.Stations.{stationAfter}
-use Rattle.path.specs.Cursor.{stepLength, onto, cursorAfter, Reachable}
+use Rattle.path.specs.Cursor.{stepLength, cursorAfter, Reachable}
 use Rattle.path.proofs.CursorLaws.{step-length, reachable}
 use Rattle.path.proofs.next_cursor.Statement.{statement}
 use Rattle.path.proofs.next_cursor.Tie as tie

@@ -1,11 +1,10 @@
 -- `path::next_station` meets its contract.
 use mathlib.Core.Path.{_≡_, sym, _∙_, ap, ap₂, subst, subst₂}
 use borrow.Author.Needs.{needs}
-use lib.IntN.{ℤ, pos}
+use lib.IntN.{pos}
 use mir.Syntax.{w64}
 use mir.Facts.{toZ-ofZ}
 use Rattle.exact.proofs.Machine.{reread}
-use Rattle.plane.specs.declared.Vec2.{Vec2}
 use Rattle.plane.specs.Vector.{plus, BothModerate}
 use Rattle.job.specs.Curves.{radiusOf}
 use Rattle.heading.specs.declared.Advance.{Advance}

@@ -6,7 +6,6 @@ use Rattle.path_trials.proofs.EndLaws.{ends-moderate, gap-moderate}
 use borrow.Author.Needs.{needs}
 use Rattle.path_trials.proofs.distance.Statement.{statement}
 use Rattle.path_trials.proofs.distance.Tie as tie
-use Rattle.path_trials.proofs.root_above.Reads as root-above-reads
 
 minus-requires : tie.Need-minus-requires
 minus-requires c κs = ends-moderate (c .args .a) (c .args .b) (c .pre)

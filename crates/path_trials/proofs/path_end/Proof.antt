@@ -1,15 +1,12 @@
 -- `path_trials::path_end` meets its contract: the last entry that was laid is the last station.
 use Prim.Native.Nat.{ℕ, _-_}
-use mathlib.Core.Path.{_≡_, sym, _∙_, ap, subst}
+use mathlib.Core.Path.{sym, _∙_, ap, subst}
 use mir.Syntax.{w64}
 use mir.Facts.{toZ-ofZ}
 use denote.Ref.{now}
-use lib.IntN.{ℤ}
-use Rattle.plane.specs.Run.{Entry}
 use Rattle.path.specs.declared.Laid.{Laid}
 use Rattle.path.specs.declared.Laid.the-variants as L
 use Rattle.path.specs.Laying.{PathRuns, pathRuns, LayEnsures}
-use Rattle.path_trials.specs.declared.PathEnd.{PathEnd}
 use Rattle.path_trials.specs.Ends.{endOf}
 use Rattle.path_trials.proofs.EndLaws.{some, last-inside, end-read}
 use borrow.Author.Needs.{needs}

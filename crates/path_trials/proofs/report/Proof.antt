@@ -8,9 +8,6 @@ use Rattle.path_trials.proofs.EndLaws.{end-measurable}
 use borrow.Author.Needs.{needs}
 use Rattle.path_trials.proofs.report.Statement.{statement}
 use Rattle.path_trials.proofs.report.Tie as tie
-use Rattle.io.proofs.print_decimal.Reads as print-decimal-reads
-use Rattle.io.proofs.write_all.Reads as write-all-reads
-use Rattle.path_trials.proofs.path_end.Reads as path-end-reads
 
 path-end-requires : tie.Need-path-end-requires
 path-end-requires c κs = search needs

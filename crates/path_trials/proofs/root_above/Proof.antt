@@ -2,7 +2,7 @@
 use native.Mathlib.Nat as NatL
 use borrow.Author.Needs.{needs}
 use native.Mathlib.Omega.{arith}
-use Prim.Native.Nat.{ℕ, _-_, _≤_, _*_}
+use Prim.Native.Nat.{_-_, _≤_}
 use Rattle.path_trials.proofs.root_above.Statement.{statement}
 use Rattle.path_trials.proofs.root_above.Tie as tie
 
