@@ -12,7 +12,7 @@ use lib.Seq.{drop-cons, getD-take, length-take-le}
 use lib.IntN.{ℤ, pos, _*ℤ_}
 use Rattle.exact.proofs.Polynomial.{_⊖_, _⊗_, lit, var}
 use Rattle.exact.proofs.Certificate.{_⊞_, _⊠_, _·_, hyp, never}
-use Rattle.exact.proofs.Sizes.{within-add, within-sub, within-more}
+use Rattle.exact.proofs.Sizes.{within-sub, within-more}
 use Rattle.plane.specs.declared.Vec2.{Vec2}
 use Rattle.plane.specs.Vector.{Moderate}
 use Rattle.plane.specs.Length.{Near}
@@ -20,15 +20,14 @@ use Rattle.job.specs.declared.Unit.{Unit as VehicleUnit}
 use Rattle.job.specs.declared.Vehicle.{Vehicle}
 use Rattle.job.specs.Empty.{emptyUnit}
 use Rattle.path.proofs.TotalLaws.{taken-next, taken-end}
-use Rattle.unit.specs.Turn.{Wheelbase, UnitSized}
-use Rattle.unit.specs.Coupling.{Hitched, hitchOffset}
-use Rattle.unit.proofs.UnitSizes.{near-sized, near-hitched}
-use Rattle.unit.proofs.Hitching.{hitch-sized}
+use Rattle.unit.specs.Turn.{Wheelbase}
 use Rattle.walk.specs.Tests.{unitsInUse}
 use Rattle.walk.specs.Units.{wheelbaseOf, rearAxle, hitchAt}
 use Rattle.walk.specs.Rig.{zeroVector}
+use Rattle.walk.specs.Inner.{UnitDrawn, RigReady}
+use Rattle.walk.proofs.DrawLaws.{vector-sized, hitch-within}
 use Rattle.points.specs.Ends.{frontOf, rearOf, rearEnd}
-use Rattle.points.specs.Requires.{PlaceSized, UnitInRange, RigSized, RigAt, EndSized}
+use Rattle.points.specs.Requires.{PlaceSized, RigAt, EndSized}
 
 -- a place's size may be given larger
 pub place-more : {a b : ℕ} {p : Vec2} → a ≤ b → PlaceSized a p → PlaceSized b p
@@ -38,9 +37,6 @@ place-more h s = record { x = within-more h (s .x); y = within-more h (s .y) }
 pub place-moderate : {b : ℕ} {p : Vec2} → b ≤ 2000000000 → PlaceSized b p → Moderate p
 place-moderate h s = record { x = within-more h (s .x); y = within-more h (s .y) }
 
-pub unit-moderate : {d : Vec2} → UnitSized d → Moderate d
-unit-moderate s = record { x = within-more (lit≤ tt) (s .x); y = within-more (lit≤ tt) (s .y) }
-
 -- an empty unit or a zero vector is out of range
 no-length : {l : ℤ} → Wheelbase l → Near zeroVector l (pos 2 *ℤ l) → ⊥
 no-length {l} w n =
@@ -49,7 +45,7 @@ no-length {l} w n =
     never 24989999 (hyp {ρ = ρ} (var 0 ⊗ var 0 ⊖ lit 2 ⊗ var 0) (lit 0) (n .low) ⊞ above ⊠ above ⊞ 9998 · above) tt
 
 -- so a rig whose units are in range has its units and vectors
-module _ {v : Vehicle} {ds : List Vec2} (rig : RigSized v ds) where
+module _ {v : Vehicle} {ds : List Vec2} (rig : RigReady v ds) where
   pub vector-there : {i : ℕ} → i < v .count → i < length ds
   vector-there {i} h = by (decLe (length ds) i)
     where
@@ -57,14 +53,14 @@ module _ {v : Vehicle} {ds : List Vec2} (rig : RigSized v ds) where
       by (no k) = omega arith
       by (yes k) =
           let u = rig .units i h in
-          absurd (no-length (u .wheelbase) (rw (List·getD-eq-default ds zeroVector {n = i} k) at (u .vector)))
+          absurd (no-length (u .ready .wheelbase) (rw (List·getD-eq-default ds zeroVector {n = i} k) at (u .near)))
 
   pub unit-there : {i : ℕ} → i < v .count → i < length (v .units)
   unit-there {i} h = by (decLe (length (v .units)) i)
     where
       by : Dec (length (v .units) ≤ i) → i < length (v .units)
       by (no k) = omega arith
-      by (yes k) = absurd ((rw (List·getD-eq-default (v .units) emptyUnit {n = i} k) at (rig .units i h .wheelbase .least)) .le)
+      by (yes k) = absurd ((rw (List·getD-eq-default (v .units) emptyUnit {n = i} k) at (rig .units i h .ready .wheelbase .least)) .le)
 
   pub units-enough : v .count ≤ length (v .units)
   units-enough = let h = unit-there {i = v .count - 1} (omega (arith, rig .least)) in omega (arith, rig .least)
@@ -88,37 +84,24 @@ module _ (us : List VehicleUnit) (ds : List Vec2) (last : ℕ) (hu : last < leng
   rear-last =
       rw (taken-next us (last + 1) last emptyUnit (omega arith) (omega arith), drop-next ds last zeroVector hd, taken-end us (last + 1) (last + 1) (omega arith))
 
--- the places a unit leads to
-module _ {u : VehicleUnit} {d : Vec2} (r : UnitInRange u d) where
-  pub vector-sized : UnitSized d
-  vector-sized = near-sized (r .wheelbase) (r .vector)
+-- the places that a unit with its front point at p leads to
+module _ {u : VehicleUnit} {d : Vec2} (r : UnitDrawn u d) {b : ℕ} {p : Vec2} (s : PlaceSized b p) where
+  pub hitch-placed : PlaceSized (b + 400000) (hitchAt u p d)
+  hitch-placed = let w = hitch-within r p b (s .x, s .y) in record { x = w .0; y = w .1 }
 
-  pub hitch-asked : Hitched d (u .hitch) (wheelbaseOf u)
-  hitch-asked = near-hitched (r .wheelbase) (r .vector) (r .hitchLeast) (r .hitchMost)
+  axle-placed : PlaceSized (b + 200000) (rearAxle p d)
+  axle-placed = let w = vector-sized r in record { x = within-sub (s .x) (w .x); y = within-sub (s .y) (w .y) }
 
-  pub hitch-offset-sized : UnitSized (hitchOffset d (u .hitch) (wheelbaseOf u))
-  hitch-offset-sized = hitch-sized d (u .hitch) (wheelbaseOf u) (r .wheelbase) (r .hitchLeast) (r .hitchMost) vector-sized
-
-  module _ {b : ℕ} {p : Vec2} (s : PlaceSized b p) where
-    pub axle-placed : PlaceSized (b + 200000) (rearAxle p d)
-    axle-placed = record { x = within-sub (s .x) (vector-sized .x); y = within-sub (s .y) (vector-sized .y) }
-
-    pub hitch-placed : PlaceSized (b + 400000) (hitchAt u p d)
-    hitch-placed =
-        place-more (omega arith)
-        (record { x = within-add (axle-placed .x) (hitch-offset-sized .x); y = within-add (axle-placed .y) (hitch-offset-sized .y) })
-
--- an end at the rear axle of a unit in range
-axle-end : {b : ℕ} {u : VehicleUnit} {p d : Vec2} → b + 200000 ≤ 152000000 → UnitInRange u d → PlaceSized b p → EndSized (record { place = rearAxle p d; d = d; wheelbase = wheelbaseOf u })
-axle-end h r s = record { place = place-more h (axle-placed r s); wheelbase = r .wheelbase; vector = r .vector }
+  axle-end : b + 200000 ≤ 152000000 → EndSized (record { place = rearAxle p d; d = d; wheelbase = wheelbaseOf u })
+  axle-end h = record { place = place-more h axle-placed; wheelbase = r .ready .wheelbase; vector = r .near }
 
 -- the rear end lies no farther from the first front point than 400,000 a unit
 rear-end-sized : (us : List VehicleUnit) (ds : List Vec2) (p : Vec2) (b : ℕ) → 1 ≤ length us → b + 400000 * length us ≤ 152000000
-    → ((i : ℕ) → i < length us → UnitInRange (getD us i emptyUnit) (getD ds i zeroVector)) → PlaceSized b p → EndSized (rearEnd us ds p)
+    → ((i : ℕ) → i < length us → UnitDrawn (getD us i emptyUnit) (getD ds i zeroVector)) → PlaceSized b p → EndSized (rearEnd us ds p)
 unfolding rearEnd
 rear-end-sized [] ds p b h m r s = absurd (NatL.not-suc-le-zero h)
-rear-end-sized (u ∷ us) [] p b h m r s = let here = r 0 (omega arith) in absurd (no-length (here .wheelbase) (here .vector))
-rear-end-sized (u ∷ []) (d ∷ ds) p b h m r s = axle-end (omega arith) (r 0 (omega arith)) s
+rear-end-sized (u ∷ us) [] p b h m r s = let here = r 0 (omega arith) in absurd (no-length (here .ready .wheelbase) (here .near))
+rear-end-sized (u ∷ []) (d ∷ ds) p b h m r s = axle-end (r 0 (omega arith)) s (omega arith)
 rear-end-sized (u ∷ (w ∷ us)) (d ∷ ds) p b h m r s =
     rear-end-sized (w ∷ us) ds (hitchAt u p d) (b + 400000) (omega arith) (omega arith) (λ i k. r (suc i) (omega arith)) (hitch-placed (r 0 (omega arith)) s)
 
@@ -126,13 +109,13 @@ module _ {v : Vehicle} {ds : List Vec2} {f : Vec2} (a : RigAt v ds f) where
   in-use : length (unitsInUse v) ≡ v .count
   in-use = length-take-le (v .count) (v .units) (units-enough (a .rig))
 
-  unit-in-use : (i : ℕ) → i < length (unitsInUse v) → UnitInRange (getD (unitsInUse v) i emptyUnit) (getD ds i zeroVector)
+  unit-in-use : (i : ℕ) → i < length (unitsInUse v) → UnitDrawn (getD (unitsInUse v) i emptyUnit) (getD ds i zeroVector)
   unit-in-use i h = let k : i < v .count = omega (arith, in-use) in rw (getD-take (v .count) (v .units) i emptyUnit k) (a .rig .units i k)
 
   pub front-sized : EndSized (frontOf v ds f)
   front-sized =
       let first = unit-in-use 0 (omega (arith, in-use, a .rig .least)) in
-      record { place = place-more (lit≤ tt) (a .front); wheelbase = first .wheelbase; vector = first .vector }
+      record { place = place-more (lit≤ tt) (a .front); wheelbase = first .ready .wheelbase; vector = first .near }
 
   pub rear-sized : EndSized (rearOf v ds f)
   rear-sized =

@@ -2,5 +2,6 @@ pub mod Results
 pub mod Filling
 pub mod EndLaws
 pub mod PointLaws
+pub mod SoundRig
 pub mod Witnesses
 pub mod Rows

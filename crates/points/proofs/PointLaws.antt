@@ -123,4 +123,4 @@ mapped-sized b g (x ∷ xs) h (suc k) = mapped-sized b g xs h k
 
 pub points-sized : {v : Vehicle} {ds : List Vec2} {f : Vec2} → RigAt v ds f → (k : ℕ) → PlaceSized 160000000 (getD (rigPoints v ds f) k zeroVector)
 unfolding rigPoints
-points-sized a k = mapped-sized 160000000 _ pointRows (λ w. point-sized w (a .rig .body) (front-sized a) (rear-sized a)) k
+points-sized a k = mapped-sized 160000000 _ pointRows (λ w. point-sized w (a .body) (front-sized a) (rear-sized a)) k

@@ -12,9 +12,10 @@ use Rattle.job.specs.declared.Unit.{Unit as VehicleUnit}
 use Rattle.job.specs.declared.Vehicle.{Vehicle}
 use Rattle.job.specs.Empty.{emptyUnit}
 use Rattle.walk.specs.Rig.{zeroVector}
+use Rattle.walk.specs.Inner.{UnitDrawn, RigReady}
 use Rattle.points.specs.Ends.{frontOf, rearOf}
-use Rattle.points.specs.Requires.{PlaceSized, UnitInRange, UnitAt, BodySized, RigSized, RigAt, EndSized, OffsetSized, Measured}
-use Rattle.points.proofs.EndLaws.{place-more, front-sized, rear-sized}
+use Rattle.points.specs.Requires.{PlaceSized, BodySized, RigAt, EndSized, OffsetSized, Measured}
+use Rattle.points.proofs.EndLaws.{front-sized, rear-sized}
 
 abbrev vec : ℤ → ℤ → Vec2
 vec a b = record { x = a; y = b }
@@ -26,22 +27,18 @@ long = record { wheelbase = 200000; hitch = negsuc 199999; fold = pos 0 }
 abbrev short : VehicleUnit
 short = record { wheelbase = 5000; hitch = pos 0; fold = pos 0 }
 
-long-met : UnitInRange long (vec (pos 0) (pos 200000))
+long-met : UnitDrawn long (vec (pos 0) (pos 200000))
 long-met =
     record {
-      wheelbase = record { least = leZ-yes tt; most = leZ-yes tt };
-      hitchLeast = leZ-yes tt;
-      hitchMost = leZ-yes tt;
-      vector = record { low = leZ-yes tt; high = leZ-yes tt };
+      ready = record { wheelbase = record { least = leZ-yes tt; most = leZ-yes tt }; hitch = lit≤ tt; fold = record { size = lit≤ tt } };
+      near = record { low = leZ-yes tt; high = leZ-yes tt };
     }
 
-short-met : UnitInRange short (vec (pos 3000) (negsuc 3999))
+short-met : UnitDrawn short (vec (pos 3000) (negsuc 3999))
 short-met =
     record {
-      wheelbase = record { least = leZ-yes tt; most = leZ-yes tt };
-      hitchLeast = leZ-yes tt;
-      hitchMost = leZ-yes tt;
-      vector = record { low = leZ-yes tt; high = leZ-yes tt };
+      ready = record { wheelbase = record { least = leZ-yes tt; most = leZ-yes tt }; hitch = lit≤ tt; fold = record { size = lit≤ tt } };
+      near = record { low = leZ-yes tt; high = leZ-yes tt };
     }
 
 -- four units, the last the shortest
@@ -57,7 +54,7 @@ corner = vec (pos 150000000) (negsuc 149999999)
 corner-met : PlaceSized 150000000 corner
 corner-met = record { x = record { size = lit≤ tt }; y = record { size = lit≤ tt } }
 
-units-met : (i : ℕ) → i < 4 → UnitInRange (getD (rig .units) i emptyUnit) (getD vectors i zeroVector)
+units-met : (i : ℕ) → i < 4 → UnitDrawn (getD (rig .units) i emptyUnit) (getD vectors i zeroVector)
 units-met zero h = long-met
 units-met (suc zero) h = long-met
 units-met (suc (suc zero)) h = long-met
@@ -70,14 +67,11 @@ units-met (suc (suc (suc (suc i)))) h = absurd (none i h)
 body-met : BodySized rig
 body-met = record { overhang = lit≤ tt; frontHalfWidth = lit≤ tt; rearHalfWidth = lit≤ tt }
 
-rig-met : RigSized rig vectors
-rig-met = record { least = lit≤ tt; most = lit≤ tt; units = units-met; body = body-met }
+rig-met : RigReady rig vectors
+rig-met = record { least = lit≤ tt; most = lit≤ tt; units = units-met }
 
 at-met : RigAt rig vectors corner
-at-met = record { rig = rig-met; front = corner-met }
-
-unit-at-met : UnitAt long corner (vec (pos 0) (pos 200000))
-unit-at-met = record { unit = long-met; front = place-more (lit≤ tt) corner-met }
+at-met = record { rig = rig-met; body = body-met; front = corner-met }
 
 end-met : EndSized (rearOf rig vectors corner)
 end-met = rear-sized at-met

@@ -1,14 +1,12 @@
 // The points of a rig that are measured at the stations.
 use job::Side;
-use job::Unit;
 use job::Vehicle;
 use plane::Vec2;
 ghost use mathlib.Core.Path.{_≡_};
 ghost use Rattle.exact.specs.Size.{Within};
-ghost use Rattle.walk.specs.Units.{hitchAt};
 ghost use Rattle.points.specs.Ends.{frontOf, rearOf};
 ghost use Rattle.points.specs.Points.{rowAt, pointAt, endOf, alongOf, halfWidth, sideOf, offsetFrom, rigPoints};
-ghost use Rattle.points.specs.Requires.{UnitAt, RigSized, RigAt, OffsetSized, Measured};
+ghost use Rattle.points.specs.Requires.{RigAt, OffsetSized, Measured};
 
 // An end of the rig that points are measured from, with the vector and the wheelbase of its unit.
 pub struct End {
@@ -72,21 +70,9 @@ const ROWS: [Row; POINT_COUNT] = [
     },
 ];
 
-// The hitch of a unit whose front point is `front`.
-fn hitch_at(u: Unit, front: Vec2, d: Vec2) -> Vec2
-    requires { ⌜ UnitAt u front d ⌝ }
-    ensures { λ r. ⌜ r ≡ hitchAt u front d ⌝ }
-{
-    let h = exact::wide_signed(u.hitch);
-    let l = exact::wide(u.wheelbase);
-    let rear = plane::minus(front, d);
-    let offset = unit::hitch_offset(d, h, l);
-    plane::plus(rear, offset)
-}
-
 // The front point of the first unit.
 pub fn front_end(v: Vehicle, d: [Vec2; 4], front: Vec2) -> End
-    requires { ⌜ RigSized v d ⌝ }
+    requires { ⌜ RigAt v d front ⌝ }
     ensures { λ r. ⌜ r ≡ frontOf v d front ⌝ }
 {
     let units = v.units;
@@ -108,7 +94,7 @@ pub fn rear_end(v: Vehicle, d: [Vec2; 4], front: Vec2) -> End
     let mut place = front;
     let mut i = 0;
     while i < last {
-        place = hitch_at(units[i], place, d[i]);
+        place = walk::units::hitch_at(units[i], place, d[i]);
         i += 1;
     }
     let unit = units[last];

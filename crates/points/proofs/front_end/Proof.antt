@@ -23,7 +23,7 @@ returns : tie.Need-returns
 returns c =
     let s = c .before .before .before .before in
     let v = s .args .v in
-    let first = getD-take (v .count) (v .units) 0 emptyUnit (s .pre .least) in
+    let first = getD-take (v .count) (v .units) 0 emptyUnit (s .pre .rig .least) in
     let el = reread-result (c .wide .ok) (c .wide .ensures ∙ ap wheelbaseOf (sym first)) in
     λ i. record { place = s .args .front; d = getD (s .args .t2) 0 zeroVector; wheelbase = el i }
 

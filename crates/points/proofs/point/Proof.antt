@@ -33,6 +33,9 @@ module _ (s : tie.Start) where
   asked : OffsetSized base ahead beside
   asked = row-asked (rowAt (s .args .k)) (s .pre .body) (s .pre .front) (s .pre .rear)
 
+sided : (c : tie.After-side-of) → c .side-of .result ≡ sideOf (rowAt (c .before .before .before .before .before .args .k) .side) (reread (c .before .half-width .result))
+sided c = c .side-of .ensures
+
 exact-ahead : (c : tie.After-along-of) → reread (c .along-of .result) ≡ ahead (c .before .before .before)
 exact-ahead c = reread-result (c .along-of .ok) (c .along-of .ensures)
 
@@ -42,7 +45,7 @@ exact-width c = reread-result (c .half-width .ok) (c .half-width .ensures)
 exact-beside : (c : tie.After-side-of) → reread (c .side-of .result) ≡ beside (c .before .before .before .before .before)
 exact-beside c =
     let s = c .before .before .before .before .before in
-    reread-result (c .side-of .ok) (c .side-of .ensures ∙ ap (sideOf (rowAt (s .args .k) .side)) (exact-width (c .before)))
+    reread-result (c .side-of .ok) (sided c ∙ ap (sideOf (rowAt (s .args .k) .side)) (exact-width (c .before)))
 
 offset : (c : tie.After-offset-from) → let s = c .before .before .before .before .before .before in c .offset-from .result ≡ offsetFrom (base s) (ahead s) (beside s)
 offset c =

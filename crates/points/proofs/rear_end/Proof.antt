@@ -6,10 +6,11 @@ use native.Mathlib.Omega.{arith}
 use borrow.Author.Needs.{needs}
 use lib.ListN.{getD, take, drop}
 use Rattle.walk.specs.Rig.{zeroVector}
+use Rattle.walk.proofs.DrawLaws.{vector-sized, sized-moderate}
 use Rattle.points.specs.Ends.{rearEnd}
 use Rattle.points.specs.Requires.{PlaceSized}
 use Rattle.points.proofs.Results.{reread-result}
-use Rattle.points.proofs.EndLaws.{place-more, place-moderate, unit-moderate, vector-sized, hitch-placed, unit-there, vector-there, rear-behind, rear-last}
+use Rattle.points.proofs.EndLaws.{place-more, place-moderate, hitch-placed, unit-there, vector-there, rear-behind, rear-last}
 use Rattle.points.proofs.rear_end.Statement.{statement}
 use Rattle.points.proofs.rear_end.Tie as tie
 
@@ -43,7 +44,8 @@ hitch-at-requires : tie.Need-hitch-at-requires Inv-loop μ-loop
 hitch-at-requires c κs = let s = c .before .before .before .before .before .before in
     let l = c .before .before .before .loop in
     let p = s .pre .rig in
-    record { unit = p .units (l .i) (omega (arith, p .least)); front = place-more (omega (arith, p .most)) (l .inv .1) }
+    let w = place-more {b = 160000000} (omega (arith, p .most)) (l .inv .1) in
+    record { unit = p .units (l .i) (omega (arith, p .least)); place = record { x = w .x; y = w .y } }
 
 add-i : tie.Need-add-i Inv-loop μ-loop
 add-i c = search needs
@@ -78,7 +80,7 @@ minus-requires : tie.Need-minus-requires Inv-loop μ-loop
 minus-requires c κs = let s = c .before .before .before .before .before .before in
     let p = s .pre .rig in
     let u = p .units (s .args .v .count - 1) (omega (arith, p .least)) in
-    record { first = place-moderate (omega (arith, p .most)) (c .before .before .before .loop .inv .1); second = unit-moderate (vector-sized u) }
+    record { first = place-moderate (omega (arith, p .most)) (c .before .before .before .loop .inv .1); second = sized-moderate (vector-sized u) }
 
 wide-requires : tie.Need-wide-requires Inv-loop μ-loop
 wide-requires c κs = search needs
