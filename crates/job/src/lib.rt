@@ -1,13 +1,15 @@
 // The job: its types, what its fields may hold, and the test of a job handed over by value.
+mod rows;
+
 use number::Range;
 use plane::Vec2;
 ghost use mathlib.Core.Path.{_≡_};
 ghost use Rattle.number.specs.Field.{within, sizeAtMost};
 ghost use Rattle.job.specs.Allowed.{hitchMost, foldAllowed, curveAllowed, headingAllowed, unitAllowed, widthsAllowed, startAllowed, elementAllowed};
 ghost use Rattle.job.specs.Steps.{stepsOf, tally, stepsAllowed};
-ghost use Rattle.job.specs.Faults.{unitsFault, elementsFault, vehicleFault, judge as judgeOf};
+ghost use Rattle.job.specs.Faults.{vehicleFault, judge as judgeOf};
 ghost use Rattle.job.specs.Empty.{emptyUnits, emptyElements, emptyVehicle, emptyJob};
-ghost use Rattle.job.specs.Inner.{Countable, UnitsInUse, ElementsInUse};
+ghost use Rattle.job.specs.Inner.{Countable};
 
 pub enum Side {
     Left,
@@ -176,40 +178,6 @@ pub fn steps_allowed(total: u64) -> bool
     total <= 2000
 }
 
-fn units_fault(units: [Unit; 4], count: usize) -> u8
-    requires { ⌜ UnitsInUse count ⌝ }
-    ensures { λ r. ⌜ r ≡ unitsFault count units ⌝ }
-{
-    let mut i: usize = 0;
-    while i < count {
-        let u = units[i];
-        if unit_allowed(i == 0, i + 1 == count, u) {
-            i += 1;
-        } else {
-            return 4;
-        }
-    }
-    0
-}
-
-fn elements_fault(elements: [Element; 64], count: usize, step: u32) -> u8
-    requires { ⌜ ElementsInUse step count ⌝ }
-    ensures { λ r. ⌜ r ≡ elementsFault step count elements ⌝ }
-{
-    let mut total: u64 = 0;
-    let mut i: usize = 0;
-    while i < count {
-        let e = elements[i];
-        if element_allowed(e) {
-            total = tally_element(total, step, e);
-            i += 1;
-        } else {
-            return 8;
-        }
-    }
-    if steps_allowed(total) { 0 } else { 9 }
-}
-
 // The first fault of a vehicle, 3, 4 or 5, or 0 for none.
 pub fn vehicle_fault(v: Vehicle) -> u8
     ensures { λ r. ⌜ r ≡ vehicleFault v ⌝ }
@@ -219,7 +187,7 @@ pub fn vehicle_fault(v: Vehicle) -> u8
         return 3;
     }
     let units = v.units;
-    let fault = units_fault(units, count);
+    let fault = rows::units_fault(units, count);
     if fault != 0 {
         return fault;
     }
@@ -253,7 +221,7 @@ pub fn judge(j: Job) -> u8
         return 8;
     }
     let elements = j.elements;
-    elements_fault(elements, count, step)
+    rows::elements_fault(elements, count, step)
 }
 
 // The units and elements of a job that has none in use.

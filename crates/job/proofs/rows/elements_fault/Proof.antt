@@ -1,4 +1,4 @@
--- `job::elements_fault` meets its contract. Assumes nothing.
+-- `job::rows::elements_fault` meets its contract. Assumes nothing.
 use Prim.Native.Nat.{ℕ, _+_, _-_, _*_, _≤_}
 use native.Mathlib.Omega.{arith}
 use borrow.Author.Needs.{needs}
@@ -11,8 +11,8 @@ use Rattle.job.specs.Empty.{emptyElement}
 use Rattle.job.specs.declared.Element.{Element}
 use Rattle.job.proofs.FaultLaws.{fault-next, fault-end}
 use Rattle.job.proofs.StepLaws.{tally-most}
-use Rattle.job.proofs.elements_fault.Statement.{statement}
-use Rattle.job.proofs.elements_fault.Tie as tie
+use Rattle.job.proofs.rows.elements_fault.Statement.{statement}
+use Rattle.job.proofs.rows.elements_fault.Tie as tie
 
 -- the fault of the elements from i on, with the steps of those before them
 abbrev left : ℕ → ℕ → List Element → ℕ → ℕ → ℕ

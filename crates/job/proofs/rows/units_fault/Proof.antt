@@ -1,4 +1,4 @@
--- `job::units_fault` meets its contract. Assumes nothing.
+-- `job::rows::units_fault` meets its contract. Assumes nothing.
 use Prim.Native.Nat.{ℕ, _+_, _-_, _≤_}
 use native.Mathlib.Omega.{arith}
 use borrow.Author.Needs.{needs}
@@ -9,8 +9,8 @@ use Rattle.job.specs.Faults.{firstOf, orFault, faultOf, unitFault, units
 use Rattle.job.specs.Empty.{emptyUnit}
 use Rattle.job.specs.declared.Unit.{Unit as VehicleUnit}
 use Rattle.job.proofs.FaultLaws.{fault-next, fault-end}
-use Rattle.job.proofs.units_fault.Statement.{statement}
-use Rattle.job.proofs.units_fault.Tie as tie
+use Rattle.job.proofs.rows.units_fault.Statement.{statement}
+use Rattle.job.proofs.rows.units_fault.Tie as tie
 
 -- the fault of the units from i on
 abbrev left : ℕ → List VehicleUnit → ℕ → ℕ
