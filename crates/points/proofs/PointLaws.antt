@@ -9,8 +9,8 @@ use Rattle.exact.specs.Size.{Within}
 use Rattle.exact.specs.Nearest.{nearestZ}
 use Rattle.exact.proofs.Polynomial.{Expr, _⊕_, _⊖_, _⊗_, neg, lit, var}
 use Rattle.exact.proofs.Order.{pos-≤}
-use Rattle.exact.proofs.Certificate.{NonNeg, _⊞_, _⊠_, _·_, num, hyp, le, le-scaled}
-use Rattle.exact.proofs.Sizes.{within-add, within-neg, within-more, ≤-size, ≥-size}
+use Rattle.exact.proofs.Certificate.{NonNeg, _⊞_, _⊠_, hyp, le, le-scaled}
+use Rattle.exact.proofs.Sizes.{within-add, within-neg, ≤-size, ≥-size}
 use Rattle.exact.proofs.NearestLaws.{nearest-bounded}
 use Rattle.plane.specs.declared.Vec2.{Vec2}
 use Rattle.job.specs.declared.Side.{Side}

@@ -1,4 +1,4 @@
--- Worked points, by computation: the single unit of 01's program run at its last station, and a folded rig with its hitch behind the axle.
+-- Worked points, by computation: a single unit as in 01's program run, narrower at the rear, and a folded rig with its hitch behind the axle.
 use Prim.Native.Nat.{ℕ}
 use mathlib.Core.Path.{_≡_, refl}
 use mathlib.Core.List.{List, [], _∷_}

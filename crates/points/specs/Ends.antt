@@ -1,7 +1,7 @@
 -- The two ends of a rig that its points are measured from (01, "Stations and the widest place": F of unit 1, R of the last unit).
 use mathlib.Core.List.{List, [], _∷_}
 use lib.ListN.{getD}
-use lib.IntN.{ℤ, pos}
+use lib.IntN.{pos}
 use Rattle.plane.specs.declared.Vec2.{Vec2}
 use Rattle.job.specs.declared.Unit.{Unit as VehicleUnit}
 use Rattle.job.specs.declared.Vehicle.{Vehicle}
@@ -11,7 +11,7 @@ use Rattle.walk.specs.Units.{wheelbaseOf, rearAxle, hitchAt}
 use Rattle.walk.specs.Rig.{zeroVector}
 use Rattle.points.specs.declared.End.{End}
 
--- an end: where it lies, and the vector and wheelbase of its unit
+-- an end is a place with the vector and wheelbase of its unit; a rig without units, or with too few vectors, has none
 abbrev pub noEnd : End
 noEnd = record { place = zeroVector; d = zeroVector; wheelbase = pos 0 }
 
