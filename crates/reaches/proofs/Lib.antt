@@ -1,0 +1,7 @@
+pub mod Rereading
+pub mod Bits
+pub mod CellLaws
+pub mod LeastGreatest
+pub mod CrossingLaws
+pub mod ReachSizes
+pub mod WidestLaws

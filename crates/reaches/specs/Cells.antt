@@ -1,20 +1,23 @@
 -- What a station keeps (01, "Stations and the widest place"): its left and right reach and its mark, in three lent runs, one entry a station.
 use Prim.Native.Nat.{ℕ, zero, suc}
 use mathlib.Core.List.{List}
-use lib.ListN.{getD, set}
+use lib.ListN.{getD, set, length}
 use lib.IntN.{ℤ, pos, negsuc}
+use Rattle.walk.specs.Drawn.{Lengths}
+use Rattle.reaches.specs.declared.Cell.{Cell}
 
 pub record Reaches : Type 0 where
   pub left : List ℤ
   pub right : List ℤ
   pub marks : List ℕ
 
--- one station's entries
-pub record Cell : Type 0 where
-  pub left : ℤ
-  pub right : ℤ
-  pub mark : ℕ
+abbrev pub reachRuns : List ℤ → List ℤ → List ℕ → Reaches
+reachRuns l r m = record { left = l; right = r; marks = m }
 
+abbrev pub lengthsOf : Reaches → Lengths
+lengthsOf r = record { left = length (r .left); right = length (r .right); marks = length (r .marks) }
+
+-- one station's entries
 abbrev pub cellAt : ℕ → Reaches → Cell
 cellAt i r = record { left = getD (r .left) i (pos 0); right = getD (r .right) i (pos 0); mark = getD (r .marks) i 0 }
 

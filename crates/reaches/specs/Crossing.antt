@@ -1,6 +1,6 @@
 -- Crossing a station (01, "Stations and the widest place").
 use Prim.Native.Nat.{ℕ, zero, suc, _+_, _/_, _%_, _^_}
-use mathlib.Core.Bool.{Bool, _&&_}
+use mathlib.Core.Bool.{Bool, false, _&&_, _||_}
 use mathlib.Core.List.{List, [], _∷_}
 use lib.Dec.{eqb}
 use lib.IntN.{ℤ, pos}
@@ -13,7 +13,8 @@ use Rattle.plane.specs.Length.{headingLength}
 use Rattle.path.specs.declared.Station.{Station}
 use Rattle.path.specs.Laying.{PathRuns}
 use Rattle.walk.specs.Drawn.{stationAt}
-use Rattle.reaches.specs.Cells.{Reaches, Cell, atStations}
+use Rattle.reaches.specs.declared.Cell.{Cell}
+use Rattle.reaches.specs.Cells.{Reaches, cellAt, storeCell, atStations}
 
 -- (A − P) · g
 abbrev pub aheadOf : Station → Vec2 → ℤ
@@ -57,6 +58,15 @@ crossedFrom p s [] news c = c
 crossedFrom p s (old ∷ olds) [] c = c
 crossedFrom p s (old ∷ olds) (new ∷ news) c = crossedFrom (p + 1) s olds news (crossedBy p s old new c)
 
--- a made step at every station of the path
+-- whether any point crosses: where none does, nothing is written
+unfoldable pub someCrosses : Station → List Vec2 → List Vec2 → Bool
+someCrosses s [] news = false
+someCrosses s (old ∷ olds) [] = false
+someCrosses s (old ∷ olds) (new ∷ news) = crosses s old new || someCrosses s olds news
+
+-- a made step at one station, and at every station of the path
+abbrev pub crossedStation : ℕ → Station → List Vec2 → List Vec2 → Reaches → Reaches
+crossedStation i s olds news r = storeCell i (crossedFrom 0 s olds news (cellAt i r)) r
+
 abbrev pub crossed : ℕ → PathRuns → List Vec2 → List Vec2 → Reaches → Reaches
 crossed asked path olds news r = atStations (λ i c. crossedFrom 0 (stationAt path i) olds news c) asked r

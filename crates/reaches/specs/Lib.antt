@@ -1,3 +1,4 @@
 pub mod Cells
 pub mod Crossing
 pub mod Widest
+pub mod Inner

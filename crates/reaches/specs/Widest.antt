@@ -2,16 +2,19 @@
 use Prim.Native.Nat.{ℕ, zero, suc, _+_, _%_, _<_, _≤_}
 use mathlib.Core.Path.{_≡_}
 use mathlib.Core.Bool.{Bool, true, false, _&&_}
-use lib.Dec.{leb, eqb}
-use lib.ListN.{length}
+use lib.Dec.{eqb}
 use lib.IntN.{ℤ, pos, _-ℤ_}
 use lib.Signed.{ltZ, _≤ℤ_, _<ℤ_}
 use Rattle.number.specs.Read.{pick}
 use Rattle.job.specs.Allowed.{between}
+use Rattle.walk.specs.Tests.{reachesLent}
 use Rattle.reaches.specs.declared.Place.{Place}
-use Rattle.reaches.specs.declared.Widest.{Widest}
-use Rattle.reaches.specs.declared.Widest.the-variants as W
-use Rattle.reaches.specs.Cells.{Reaches, Cell, cellAt}
+use Rattle.reaches.specs.declared.Cell.{Cell}
+use Rattle.reaches.specs.declared.Best.{Best}
+use Rattle.reaches.specs.declared.Best.the-variants.{Nothing, Found}
+use Rattle.reaches.specs.declared.WidestAnswer.{WidestAnswer}
+use Rattle.reaches.specs.declared.WidestAnswer.the-variants as W
+use Rattle.reaches.specs.Cells.{Reaches, lengthsOf, cellAt}
 
 -- "A station is complete when all six bits are set": the mark's lower bits make up the full mark
 abbrev pub sixPoints : ℕ
@@ -27,40 +30,42 @@ abbrev pub placeOf : ℕ → Cell → Place
 placeOf i c = record { station = i; width = width c; left = c .left; right = c .right }
 
 -- the best so far, and whether a station beats it: only a greater width does, so the lowest number stays among equals
-pub data Best : Type 0 where
-  none : Best
-  best : Place → Best
-
 abbrev pub wider : Place → Best → Best
-wider p none = best p
-wider p (best q) = pick (ltZ (q .width) (p .width)) (best p) (best q)
+wider p Nothing = Found p
+wider p (Found q) = pick (ltZ (q .width) (p .width)) (Found p) (Found q)
 
 abbrev pub considered : ℕ → ℕ → Cell → Best → Best
 considered full i c b = pick (complete full c) (wider (placeOf i c) b) b
 
 unfoldable pub widestAmong : ℕ → ℕ → Reaches → Best
-widestAmong full zero r = none
+widestAmong full zero r = Nothing
 widestAmong full (suc i) r = considered full i (cellAt i r) (widestAmong full i r)
 
-abbrev pub answerOf : Best → Widest
-answerOf none = W.Refused 24
-answerOf (best p) = W.At p
+abbrev pub answerOf : Best → WidestAnswer
+answerOf Nothing = W.Refused 24
+answerOf (Found p) = W.At p
+
+-- 21, of the three runs that are read
+unfoldable pub widestLent : ℕ → Reaches → Bool
+widestLent asked r = between 1 2001 asked && reachesLent asked (lengthsOf r)
 
 -- "the widest tests 21, 24"
-unfoldable pub widestAnswer : ℕ → ℕ → Reaches → Widest
-widestAnswer full asked r =
-    pick (between 1 2001 asked && (leb asked (length (r .left)) && (leb asked (length (r .right)) && leb asked (length (r .marks)))))
-    (answerOf (widestAmong full asked r))
-    (W.Refused 21)
+unfoldable pub widestAnswer : ℕ → ℕ → Reaches → WidestAnswer
+widestAnswer full asked r = pick (widestLent asked r) (answerOf (widestAmong full asked r)) (W.Refused 21)
 
--- the claim, over any runs: the place answered is a complete station, no complete one is wider and none earlier as wide; 24 exactly where none is complete
-pub record IsWidest (full n : ℕ) (r : Reaches) (p : Place) : Type 0 where
-  pub inside : p .station < n
+-- a place that is right to answer: a complete station as it stands in the runs, no complete one wider and none earlier as wide
+pub record IsWidest (full asked : ℕ) (r : Reaches) (p : Place) : Type 0 where
+  pub inside : p .station < asked
   pub whole : complete full (cellAt (p .station) r) ≡ true
   pub read : p ≡ placeOf (p .station) (cellAt (p .station) r)
-  pub greatest : (i : ℕ) → i < n → complete full (cellAt i r) ≡ true → width (cellAt i r) ≤ℤ p .width
+  pub greatest : (i : ℕ) → i < asked → complete full (cellAt i r) ≡ true → width (cellAt i r) ≤ℤ p .width
   pub earliest : (i : ℕ) → i < p .station → complete full (cellAt i r) ≡ true → width (cellAt i r) <ℤ p .width
 
+abbrev pub NoneComplete : ℕ → ℕ → Reaches → Type 0
+NoneComplete full asked r = (i : ℕ) → i < asked → complete full (cellAt i r) ≡ false
+
+-- the claim, over any runs: a place answered is right; 24 is answered exactly where the runs are lent and no station is complete
 pub record WidestPlace : Type 0 where
-  pub found : (full n : ℕ) (r : Reaches) (p : Place) → widestAmong full n r ≡ best p → IsWidest full n r p
-  pub nowhere : (full n : ℕ) (r : Reaches) → widestAmong full n r ≡ none → (i : ℕ) → i < n → complete full (cellAt i r) ≡ false
+  pub found : (full asked : ℕ) (r : Reaches) (p : Place) → widestAnswer full asked r ≡ W.At p → IsWidest full asked r p
+  pub nowhere : (full asked : ℕ) (r : Reaches) → widestAnswer full asked r ≡ W.Refused 24 → NoneComplete full asked r
+  pub only : (full asked : ℕ) (r : Reaches) → widestLent asked r ≡ true → NoneComplete full asked r → widestAnswer full asked r ≡ W.Refused 24

@@ -1,4 +1,21 @@
 // What the stations keep of the points that cross them, and where the rig is widest.
+use path::Station;
+use plane::Vec2;
+ghost use mathlib.Core.Path.{_≡_};
+ghost use lib.ListN.{length};
+ghost use Rattle.path.specs.Laying.{pathRuns};
+ghost use Rattle.walk.specs.Drawn.{stationAt};
+ghost use Rattle.reaches.specs.Cells.{reachRuns, cleared};
+ghost use Rattle.reaches.specs.Crossing.{aheadOf, reachOf, crosses, smaller as smallerZ, greater as greaterZ, withBit, crossedBy, crossedFrom, someCrosses, crossedStation, crossed};
+ghost use Rattle.reaches.specs.Widest.{sixPoints, complete as completeZ, placeOf, wider as widerOf, considered as consideredOf, widestAmong, widestLent, widestAnswer, WidestPlace};
+ghost use Rattle.reaches.specs.Inner.{Room, Measurable, Movable, PointNumber, Numbered, SixMoves, Inside, AtStation, Crossable};
+
+// What a station keeps: its left and right reach, and its mark.
+pub struct Cell {
+    pub left: i32,
+    pub right: i32,
+    pub mark: u8,
+}
 
 // The widest place: its station, width, left and right.
 pub struct Place {
@@ -8,7 +25,310 @@ pub struct Place {
     pub right: i64,
 }
 
-pub enum Widest {
+// The widest place so far.
+pub enum Best {
+    Nothing,
+    Found(Place),
+}
+
+pub enum WidestAnswer {
     At(Place),
     Refused(u8),
 }
+
+// Every station asked for, as a placement leaves it.
+pub fn clear(asked: usize, left: &mut [i32], right: &mut [i32], marks: &mut [u8])
+    requires { ⌜ Room asked (reachRuns (now left) (now right) (now marks)) ⌝ }
+    ensures { λ _. ⌜ reachRuns (now (left .exit)) (now (right .exit)) (now (marks .exit)) ≡ cleared asked (reachRuns (now (left .entry)) (now (right .entry)) (now (marks .entry))) ⌝ }
+{
+    let mut i: usize = 0;
+    while i < asked {
+        left[i] = 2000000000;
+        right[i] = -2000000000;
+        marks[i] = 0;
+        i += 1;
+    }
+}
+
+// How far ahead of a station a point lies, times the heading's length.
+fn ahead_of(s: Station, a: Vec2) -> i64
+    requires { ⌜ Measurable s a ⌝ }
+    ensures { λ r. ⌜ r ≡ aheadOf s a ⌝ }
+{
+    let p = s.position;
+    let g = s.heading;
+    let px = p.x;
+    let py = p.y;
+    let gx = g.x;
+    let gy = g.y;
+    let ax = a.x;
+    let ay = a.y;
+    (ax - px) * gx + (ay - py) * gy
+}
+
+// How far to the right of a station a point lies.
+fn reach(s: Station, a: Vec2) -> i32
+    requires { ⌜ Measurable s a ⌝ }
+    ensures { λ r. ⌜ r ≡ reachOf s a ⌝ }
+{
+    let p = s.position;
+    let g = s.heading;
+    let px = p.x;
+    let py = p.y;
+    let gx = g.x;
+    let gy = g.y;
+    let ax = a.x;
+    let ay = a.y;
+    exact::nearest((ax - px) * gy - (ay - py) * gx, 1000000) as i32
+}
+
+// Whether a point that moves from old to new crosses a station.
+// The second product is spared where the point is past the station already.
+fn crosses_station(s: Station, old: Vec2, new: Vec2) -> bool
+    requires { ⌜ Movable s old new ⌝ }
+    ensures { λ r. ⌜ r ≡ crosses s old new ⌝ }
+{
+    if ahead_of(s, old) < 0 {
+        return 0 <= ahead_of(s, new);
+    }
+    false
+}
+
+fn smaller(a: i32, b: i32) -> i32
+    ensures { λ r. ⌜ r ≡ smallerZ a b ⌝ }
+{
+    if a <= b { a } else { b }
+}
+
+fn greater(a: i32, b: i32) -> i32
+    ensures { λ r. ⌜ r ≡ greaterZ a b ⌝ }
+{
+    if a <= b { b } else { a }
+}
+
+// The bit of each point in a mark.
+const BITS: [u8; 6] = [1, 2, 4, 8, 16, 32];
+
+// The mark with a point's bit set: added where it is clear, so no other bit changes.
+fn with_bit(p: usize, mark: u8) -> u8
+    requires { ⌜ PointNumber p ⌝ }
+    ensures { λ r. ⌜ r ≡ withBit p mark ⌝ }
+{
+    let bit = BITS[p];
+    if mark / bit % 2 == 1 {
+        mark
+    } else {
+        mark + bit
+    }
+}
+
+// A station's cell after the move of one point.
+fn crossed_cell(p: usize, s: Station, old: Vec2, new: Vec2, c: Cell) -> Cell
+    requires { ⌜ Numbered p s old new ⌝ }
+    ensures { λ r. ⌜ r ≡ crossedBy p s old new c ⌝ }
+{
+    if crosses_station(s, old, new) {
+        let a = reach(s, old);
+        let b = reach(s, new);
+        let left = c.left;
+        let right = c.right;
+        return Cell {
+            left: smaller(left, smaller(a, b)),
+            right: greater(right, greater(a, b)),
+            mark: with_bit(p, c.mark),
+        };
+    }
+    c
+}
+
+// The same after the moves of all points.
+fn crossed_by_all(s: Station, olds: [Vec2; 6], news: [Vec2; 6], c: Cell) -> Cell
+    requires { ⌜ SixMoves s olds news ⌝ }
+    ensures { λ r. ⌜ r ≡ crossedFrom 0 s olds news c ⌝ }
+{
+    let mut next = c;
+    let mut p: usize = 0;
+    while p < 6 {
+        let old = olds[p];
+        let new = news[p];
+        next = crossed_cell(p, s, old, new, next);
+        p += 1;
+    }
+    next
+}
+
+// Whether any point crosses a station. It writes nothing and is small: a compiler can keep the points' places out of memory copies.
+fn some_crosses(s: Station, olds: [Vec2; 6], news: [Vec2; 6]) -> bool
+    requires { ⌜ SixMoves s olds news ⌝ }
+    ensures { λ r. ⌜ r ≡ someCrosses s olds news ⌝ }
+{
+    let mut p: usize = 0;
+    while p < 6 {
+        let old = olds[p];
+        let new = news[p];
+        if crosses_station(s, old, new) {
+            return true;
+        }
+        p += 1;
+    }
+    false
+}
+
+// A station's entries in the path's runs.
+fn station_at(xs: &[i32], ys: &[i32], gxs: &[i32], gys: &[i32], i: usize) -> Station
+    requires { ⌜ Inside i (pathRuns (now xs) (now ys) (now gxs) (now gys)) ⌝ }
+    ensures { λ r. ⌜ r ≡ stationAt (pathRuns (now (xs .entry)) (now (ys .entry)) (now (gxs .entry)) (now (gys .entry))) i ⌝ }
+{
+    let x = plane::get(xs, i);
+    let y = plane::get(ys, i);
+    let gx = plane::get(gxs, i);
+    let gy = plane::get(gys, i);
+    let position = Vec2 { x, y };
+    let heading = Vec2 { x: gx, y: gy };
+    Station { position, heading }
+}
+
+// A made step at one station, which is not written where no point crosses it.
+fn cross_station(
+    i: usize,
+    s: Station,
+    olds: [Vec2; 6],
+    news: [Vec2; 6],
+    left: &mut [i32],
+    right: &mut [i32],
+    marks: &mut [u8],
+)
+    requires { ⌜ AtStation i s olds news (reachRuns (now left) (now right) (now marks)) ⌝ }
+    ensures { λ _. ⌜ reachRuns (now (left .exit)) (now (right .exit)) (now (marks .exit)) ≡ crossedStation i s olds news (reachRuns (now (left .entry)) (now (right .entry)) (now (marks .entry))) ⌝ }
+{
+    if some_crosses(s, olds, news) {
+        let cell = Cell {
+            left: left[i],
+            right: right[i],
+            mark: marks[i],
+        };
+        let next = crossed_by_all(s, olds, news, cell);
+        let l = next.left;
+        let r = next.right;
+        left[i] = l;
+        right[i] = r;
+        marks[i] = next.mark;
+    }
+}
+
+// A made step at every station asked for.
+pub fn cross(
+    asked: usize,
+    xs: &[i32],
+    ys: &[i32],
+    gxs: &[i32],
+    gys: &[i32],
+    olds: [Vec2; 6],
+    news: [Vec2; 6],
+    left: &mut [i32],
+    right: &mut [i32],
+    marks: &mut [u8],
+)
+    requires { ⌜ Crossable asked (pathRuns (now xs) (now ys) (now gxs) (now gys)) olds news (reachRuns (now left) (now right) (now marks)) ⌝ }
+    ensures { λ _. ⌜ reachRuns (now (left .exit)) (now (right .exit)) (now (marks .exit)) ≡ crossed asked (pathRuns (now (xs .entry)) (now (ys .entry)) (now (gxs .entry)) (now (gys .entry))) olds news (reachRuns (now (left .entry)) (now (right .entry)) (now (marks .entry))) ⌝ }
+{
+    let mut i: usize = 0;
+    while i < asked {
+        let s = station_at(xs, ys, gxs, gys, i);
+        cross_station(i, s, olds, news, left, right, marks);
+        i += 1;
+    }
+}
+
+// Whether a station is complete; full is the mark of one that is, but for the bits above.
+fn complete(full: u8, c: Cell) -> bool
+    ensures { λ r. ⌜ r ≡ completeZ full c ⌝ }
+{
+    (c.mark as u32) % (full as u32 + 1) == full as u32
+}
+
+fn place_of(i: usize, c: Cell) -> Place
+    ensures { λ r. ⌜ r ≡ placeOf i c ⌝ }
+{
+    let left = exact::wide_signed(c.left);
+    let right = exact::wide_signed(c.right);
+    Place {
+        station: i,
+        width: right - left,
+        left,
+        right,
+    }
+}
+
+// A place against the best so far: only a greater width beats it.
+fn wider(p: Place, best: Best) -> Best
+    ensures { λ r. ⌜ r ≡ widerOf p best ⌝ }
+{
+    match best {
+        Best::Nothing => Best::Found(p),
+        Best::Found(q) => {
+            if q.width < p.width {
+                return Best::Found(p);
+            }
+            best
+        }
+    }
+}
+
+// A station against the best so far.
+fn considered(full: u8, i: usize, c: Cell, best: Best) -> Best
+    ensures { λ r. ⌜ r ≡ consideredOf full i c best ⌝ }
+{
+    if complete(full, c) {
+        return wider(place_of(i, c), best);
+    }
+    best
+}
+
+// The best of the stations below asked; full is the mark of a complete one.
+fn widest_among(full: u8, asked: usize, left: &[i32], right: &[i32], marks: &[u8]) -> Best
+    requires { ⌜ Room asked (reachRuns (now left) (now right) (now marks)) ⌝ }
+    ensures { λ r. ⌜ r ≡ widestAmong full asked (reachRuns (now (left .entry)) (now (right .entry)) (now (marks .entry))) ⌝ }
+{
+    let mut best = Best::Nothing;
+    let mut i: usize = 0;
+    while i < asked {
+        let cell = Cell {
+            left: left[i],
+            right: right[i],
+            mark: marks[i],
+        };
+        best = considered(full, i, cell, best);
+        i += 1;
+    }
+    best
+}
+
+fn widest_lent(asked: usize, left: &[i32], right: &[i32], marks: &[u8]) -> bool
+    ensures { λ r. ⌜ r ≡ widestLent asked (reachRuns (now (left .entry)) (now (right .entry)) (now (marks .entry))) ⌝ }
+{
+    ((1 <= asked) & (asked <= 2001))
+        & ((asked <= left.len()) & ((asked <= right.len()) & (asked <= marks.len())))
+}
+
+// The mark of a station that all six points have crossed.
+const SIX_POINTS: u8 = 63;
+
+// The widest complete station, or 21, or 24 where none is complete.
+pub fn widest(asked: usize, left: &[i32], right: &[i32], marks: &[u8]) -> WidestAnswer
+    ensures { λ r. ⌜ r ≡ widestAnswer sixPoints asked (reachRuns (now (left .entry)) (now (right .entry)) (now (marks .entry))) ⌝ }
+{
+    if widest_lent(asked, left, right, marks) {
+        let best = widest_among(SIX_POINTS, asked, left, right, marks);
+        return match best {
+            Best::Found(p) => WidestAnswer::At(p),
+            Best::Nothing => WidestAnswer::Refused(24),
+        };
+    }
+    WidestAnswer::Refused(21)
+}
+
+// Claim: the place answered is complete, no complete station is wider and none earlier as wide; 24 exactly where none is complete.
+pub fn widest_place()
+    ensures { λ _. ⌜ WidestPlace ⌝ }
+{}

@@ -1,0 +1,176 @@
+-- The widest place: the loop over stations, what the test of 21 says, and that the answer is right.
+use Prim.Native.Nat.{ℕ, zero, suc, _+_, _≤_, _<_}
+use mathlib.Core.Path.{_≡_, refl, sym, _∙_, ap, subst}
+use mathlib.Core.Bool.{Bool, true, false, _&&_}
+use mathlib.Core.Logic.{⊎-elim}
+use native.Mathlib.Nat.{eq-or-lt-of-le, le-of-suc-le-suc, not-suc-le-zero}
+use native.Mathlib.Numerals.{add-one}
+use native.Mathlib.Omega.{arith}
+use borrow.Author.Tests.{leb-true}
+use lib.Dec.{leb}
+use lib.ListN.{length}
+use lib.IntN.{ℤ}
+use lib.Signed.{_≤ℤ_, _<ℤ_, ltZ, ltZ-yes, ≤ℤ-refl, clashℤ}
+use Rattle.exact.proofs.Order.{of-true, ltZ-false, ltZ-true-≤, ≤ℤ-trans}
+use Rattle.number.specs.Read.{pick}
+use Rattle.reaches.specs.declared.Cell.{Cell}
+use Rattle.reaches.specs.declared.Place.{Place}
+use Rattle.reaches.specs.declared.Best.{Best}
+use Rattle.reaches.specs.declared.Best.the-variants.{Nothing, Found}
+use Rattle.reaches.specs.declared.WidestAnswer.the-variants as W
+use Rattle.reaches.specs.Cells.{Reaches, cellAt}
+use Rattle.reaches.specs.Widest.{complete, width, placeOf, wider, considered, widestAmong, answerOf, widestLent, widestAnswer, IsWidest, NoneComplete, WidestPlace}
+use Rattle.reaches.specs.Inner.{Room}
+
+-- the loop over stations
+module _ (full : ℕ) (r : Reaches) where
+  pub none-considered : widestAmong full 0 r ≡ Nothing
+  unfolding widestAmong
+  none-considered = refl
+
+  pub one-considered : (i : ℕ) (b : Best) → b ≡ widestAmong full i r → considered full i (cellAt i r) b ≡ widestAmong full (i + 1) r
+  unfolding widestAmong
+  one-considered i b e = rw (add-one i, e)
+
+-- the test of 21 that passed
+both : (a b : Bool) → (a && b) ≡ true → (a ≡ true) × (b ≡ true)
+both true b e = (refl, e)
+both false b e = absurd (let z : _≡_ {A = ℕ} 0 1 = cc in omega arith)
+
+pub lent-room : (asked : ℕ) (r : Reaches) → widestLent asked r ≡ true → Room asked r
+unfolding widestLent
+lent-room asked r e =
+    let l = leb asked (length (r .left)) in
+    let m = leb asked (length (r .right)) in
+    let n = leb asked (length (r .marks)) in
+    let p = both (leb 1 asked && leb asked 2001) (l && (m && n)) e .1 in
+    let q = both l (m && n) p in
+    let s = both m n (q .1) in
+    record { left = leb-true asked _ (q .0); right = leb-true asked _ (s .0); marks = leb-true asked _ (s .1) }
+
+-- the answers
+module _ (full asked : ℕ) (r : Reaches) where
+  pub not-lent : widestLent asked r ≡ false → widestAnswer full asked r ≡ W.Refused 21
+  unfolding widestAnswer
+  not-lent e = rw e
+
+  pub answered : (b : Best) → widestLent asked r ≡ true → b ≡ widestAmong full asked r → widestAnswer full asked r ≡ answerOf b
+  unfolding widestAnswer
+  answered b e f = rw (e, ← f)
+
+-- orders
+≤-<-trans : {a b c : ℤ} → a ≤ℤ b → b <ℤ c → a <ℤ c
+≤-<-trans {a} {b} {c} h k = by (ltZ a c) refl
+  where
+    by : (t : Bool) → ltZ a c ≡ t → a <ℤ c
+    by true e = ltZ-yes (of-true e)
+    by false e = clashℤ k (≤ℤ-trans (ltZ-false a c e) h)
+
+<-≤ : {a b : ℤ} → a <ℤ b → a ≤ℤ b
+<-≤ {a} {b} h = by (ltZ a b) refl
+  where
+    by : (t : Bool) → ltZ a b ≡ t → a ≤ℤ b
+    by true e = ltZ-true-≤ a b e
+    by false e = clashℤ h (ltZ-false a b e)
+
+-- what is so of the stations below n, and of station n, is so of those below n + 1
+below-next : (P : ℕ → Type 0) (n : ℕ) → ((i : ℕ) → i < n → P i) → P n → (i : ℕ) → i < suc n → P i
+below-next P n h e i l = ⊎-elim (λ (q : i ≡ n). subst P (sym q) e) (λ (k : i < n). h i k) (eq-or-lt-of-le (le-of-suc-le-suc l))
+
+never-both : {A : Type 0} {b : Bool} → b ≡ true → b ≡ false → A
+never-both p q = absurd (let z : _≡_ {A = ℕ} 0 1 = cc in omega arith)
+
+-- the best of the first n stations is right
+abbrev Right : ℕ → ℕ → Reaches → Best → Type 0
+Right full n r Nothing = NoneComplete full n r
+Right full n r (Found p) = IsWidest full n r p
+
+module _ (full n : ℕ) (r : Reaches) where
+  abbrev here : Place
+  here = placeOf n (cellAt n r)
+
+  -- station n is not complete
+  passed-over : complete full (cellAt n r) ≡ false → (b : Best) → Right full n r b → Right full (suc n) r b
+  passed-over e Nothing h = below-next (λ (i : ℕ). complete full (cellAt i r) ≡ false) n h e
+  passed-over e (Found p) h =
+      record {
+        inside = omega (arith, h .inside);
+        whole = h .whole;
+        read = h .read;
+        greatest = below-next (λ (i : ℕ). complete full (cellAt i r) ≡ true → width (cellAt i r) ≤ℤ p .width) n (h .greatest) (λ t. never-both t e);
+        earliest = h .earliest;
+      }
+
+  -- it is, and beats all before it
+  beaten : complete full (cellAt n r) ≡ true → ((i : ℕ) → i < n → complete full (cellAt i r) ≡ true → width (cellAt i r) <ℤ width (cellAt n r)) → IsWidest full (suc n) r here
+  beaten e h =
+      record {
+        inside = omega arith;
+        whole = e;
+        read = refl;
+        greatest =
+            below-next (λ (i : ℕ). complete full (cellAt i r) ≡ true → width (cellAt i r) ≤ℤ width (cellAt n r)) n (λ i l t. <-≤ (h i l t)) (λ t. ≤ℤ-refl (width (cellAt n r)));
+        earliest = h;
+      }
+
+  -- it is, and is no wider than the best
+  kept : (q : Place) → width (cellAt n r) ≤ℤ q .width → IsWidest full n r q → IsWidest full (suc n) r q
+  kept q e h =
+      record {
+        inside = omega (arith, h .inside);
+        whole = h .whole;
+        read = h .read;
+        greatest = below-next (λ (i : ℕ). complete full (cellAt i r) ≡ true → width (cellAt i r) ≤ℤ q .width) n (h .greatest) (λ t. e);
+        earliest = h .earliest;
+      }
+
+  compared : complete full (cellAt n r) ≡ true → (b : Best) → Right full n r b → Right full (suc n) r (wider here b)
+  compared e Nothing h = beaten e (λ i l t. never-both t (h i l))
+  compared e (Found q) h = by (ltZ (q .width) (width (cellAt n r))) refl
+    where
+      by : (t : Bool) → ltZ (q .width) (width (cellAt n r)) ≡ t → Right full (suc n) r (pick t (Found here) (Found q))
+      by true f = beaten e (λ i l t. ≤-<-trans (h .greatest i l t) (ltZ-yes (of-true f)))
+      by false f = kept q (ltZ-false (q .width) (width (cellAt n r)) f) h
+
+  next-right : (b : Best) → Right full n r b → Right full (suc n) r (considered full n (cellAt n r) b)
+  next-right b h = by (complete full (cellAt n r)) refl
+    where
+      by : (t : Bool) → complete full (cellAt n r) ≡ t → Right full (suc n) r (pick t (wider here b) b)
+      by true e = compared e b h
+      by false e = passed-over e b h
+
+pub among-right : (full n : ℕ) (r : Reaches) → Right full n r (widestAmong full n r)
+unfolding widestAmong
+among-right full zero r = λ i h. absurd (not-suc-le-zero h)
+among-right full (suc n) r = next-right full n r (widestAmong full n r) (among-right full n r)
+
+-- the claim
+module _ (full asked : ℕ) (r : Reaches) where
+  found : (p : Place) → widestAnswer full asked r ≡ W.At p → IsWidest full asked r p
+  unfolding widestAnswer
+  found p = by (widestLent asked r) (widestAmong full asked r) (among-right full asked r)
+    where
+      by : (t : Bool) (b : Best) → Right full asked r b → pick t (answerOf b) (W.Refused 21) ≡ W.At p → IsWidest full asked r p
+      by true Nothing h e = absurd (let z : _≡_ {A = ℕ} 0 1 = cc in omega arith)
+      by true (Found q) h e = let f : q ≡ p = cc in subst (IsWidest full asked r) f h
+      by false b h e = absurd (let z : _≡_ {A = ℕ} 0 1 = cc in omega arith)
+
+  nowhere : widestAnswer full asked r ≡ W.Refused 24 → NoneComplete full asked r
+  unfolding widestAnswer
+  nowhere = by (widestLent asked r) (widestAmong full asked r) (among-right full asked r)
+    where
+      by : (t : Bool) (b : Best) → Right full asked r b → pick t (answerOf b) (W.Refused 21) ≡ W.Refused 24 → NoneComplete full asked r
+      by true Nothing h e = h
+      by true (Found q) h e = absurd (let z : _≡_ {A = ℕ} 0 1 = cc in omega arith)
+      by false b h e = absurd (let f : _≡_ {A = ℕ} 21 24 = cc in omega arith)
+
+  only : widestLent asked r ≡ true → NoneComplete full asked r → widestAnswer full asked r ≡ W.Refused 24
+  unfolding widestAnswer
+  only e n = rw e (by (widestAmong full asked r) (among-right full asked r))
+    where
+      by : (b : Best) → Right full asked r b → answerOf b ≡ W.Refused 24
+      by Nothing h = refl
+      by (Found p) h = never-both (h .whole) (n (p .station) (h .inside))
+
+pub widest-place : WidestPlace
+widest-place = record { found = found; nowhere = nowhere; only = only }

@@ -1,0 +1,131 @@
+-- `reaches::cross` meets its contract: after i turns the first i stations are crossed.
+use Prim.Native.Nat.{ℕ, _+_, _-_, _≤_, _<_}
+use mathlib.Core.Path.{_≡_, refl, sym, _∙_, ap, subst}
+use mathlib.Core.List.{List}
+use native.Mathlib.Omega.{arith}
+use borrow.Author.Needs.{needs}
+use denote.Ref.{now}
+use lib.ListN.{length, getD}
+use Rattle.plane.specs.declared.Vec2.{Vec2}
+use Rattle.path.specs.declared.Station.{Station}
+use Rattle.path.specs.Laying.{PathRuns, pathRuns}
+use Rattle.path.proofs.StoreLaws.{room}
+use Rattle.walk.specs.Drawn.{stationAt}
+use Rattle.walk.specs.Rig.{zeroVector}
+use Rattle.reaches.specs.declared.Cell.{Cell}
+use Rattle.reaches.specs.Cells.{Reaches, reachRuns}
+use Rattle.reaches.specs.Crossing.{crossedFrom, crossedStation, crossed}
+use Rattle.reaches.specs.Inner.{AtStation, SixMoves}
+use Rattle.reaches.proofs.CellLaws.{none-yet, one-more, SameLengths, lengths-of, same-room}
+use Rattle.reaches.proofs.cross.Statement.{statement}
+use Rattle.reaches.proofs.cross.Tie as tie
+
+-- what each station's cell becomes
+abbrev rule : PathRuns → List Vec2 → List Vec2 → ℕ → Cell → Cell
+rule path olds news i c = crossedFrom 0 (stationAt path i) olds news c
+
+abbrev Inv-loop : tie.InvT-loop
+Inv-loop asked xs ys gxs gys olds news left₀ right₀ marks₀ i₀ left right marks i =
+    (i ≤ asked) × (reachRuns left right marks ≡ crossed i (pathRuns xs ys gxs gys) olds news (reachRuns left₀ right₀ marks₀))
+
+abbrev μ-loop : tie.MeasureT-loop
+μ-loop asked xs ys gxs gys olds news left₀ right₀ marks₀ i₀ left right marks i = asked - i
+
+-- at the entry: the path and the runs
+module _ (s : tie.Start Inv-loop μ-loop) where
+  abbrev path : PathRuns
+  path = pathRuns (now (s .args .xs)) (now (s .args .ys)) (now (s .args .gxs)) (now (s .args .gys))
+
+  abbrev given : Reaches
+  given = reachRuns (now (s .args .left)) (now (s .args .right)) (now (s .args .marks))
+
+-- in the loop: the runs so far
+module _ (l : tie.At-loop Inv-loop μ-loop) where
+  abbrev s : tie.Start Inv-loop μ-loop
+  s = l .before .before
+
+  abbrev so-far : Reaches
+  so-far = reachRuns (l .loop .left) (l .loop .right) (l .loop .marks)
+
+  lengths : SameLengths so-far (given s)
+  lengths = lengths-of (rule (path s) (s .args .olds) (s .args .news)) (l .loop .i) (given s) (l .loop .inv .1)
+
+loop-holds : tie.Need-loop-holds Inv-loop μ-loop
+loop-holds c = (omega arith, sym (none-yet (rule (path (c .before)) (c .before .args .olds) (c .before .args .news)) (given (c .before))))
+
+station-at-requires : tie.Need-station-at-requires Inv-loop μ-loop
+station-at-requires c κs =
+    let r = room (s (c .before) .args .asked) (path (s (c .before))) (s (c .before) .pre .lent) in
+    let i = c .loop-test .taken in
+    record { xs = omega (arith, r .0); ys = omega (arith, r .1); gxs = omega (arith, r .2); gys = omega (arith, r .3) }
+
+-- a station of the path, with the moves of the points
+module _ (c : tie.In-loop Inv-loop μ-loop) where
+  abbrev here : Station
+  here = stationAt (path (s (c .before))) (c .before .loop .i)
+
+  moves : SixMoves here (s (c .before) .args .olds) (s (c .before) .args .news)
+  moves =
+      let y = s (c .before) .pre in
+      record { move = λ p h. record { station = y .stations (c .before .loop .i) (c .loop-test .taken); from = y .old p h; to = y .new p h } }
+
+  at-station : AtStation (c .before .loop .i) here (s (c .before) .args .olds) (s (c .before) .args .news) (so-far (c .before))
+  at-station =
+      let r = same-room (lengths (c .before)) (s (c .before) .pre .room) in
+      let t = c .loop-test .taken in
+      record { moves = moves; left = omega (arith, r .left); right = omega (arith, r .right); marks = omega (arith, r .marks) }
+
+cross-station-requires : tie.Need-cross-station-requires Inv-loop μ-loop
+cross-station-requires c κs =
+    let m = c .before .before .before in
+    let i = m .before in
+    let a = s (i .before) .args in
+    subst (λ (p : Station). AtStation (i .before .loop .i) p (a .olds) (a .news) (so-far (i .before))) (sym (m .station-at .ensures)) (at-station i)
+
+add-i : tie.Need-add-i Inv-loop μ-loop
+add-i c = search needs
+
+loop-less : tie.Need-loop-less Inv-loop μ-loop
+loop-less c = search needs
+
+loop-again : tie.Need-loop-again Inv-loop μ-loop
+loop-again c =
+    let w = c .before .before .before .before in
+    let m = w .before .before .before .before in
+    let l = m .before .before in
+    let a = s l .args in (
+      search needs,
+      w .cross-station .ensures ∙ ap (λ (p : Station). crossedStation (l .loop .i) p (a .olds) (a .news) (so-far l)) (m .station-at .ensures)
+          ∙ one-more (rule (path (s l)) (a .olds) (a .news)) (given (s l)) (l .loop .i) (so-far l) _ (l .loop .inv .1) refl,
+    )
+
+same-length : tie.Need-same-length Inv-loop μ-loop
+same-length c = lengths (c .before) .left
+
+same-length-2 : tie.Need-same-length-2 Inv-loop μ-loop
+same-length-2 c = lengths (c .before) .right
+
+same-length-3 : tie.Need-same-length-3 Inv-loop μ-loop
+same-length-3 c = lengths (c .before) .marks
+
+returns : tie.Need-returns Inv-loop μ-loop
+returns c =
+    let e : c .before .loop .i ≡ s (c .before) .args .asked = omega arith in
+    rw (← e) (c .before .loop .inv .1)
+
+pub cross-spec : {M : Type 1} → statement M
+cross-spec =
+    tie.close
+    (tie.spec
+    Inv-loop
+    μ-loop
+    loop-holds
+    station-at-requires
+    cross-station-requires
+    add-i
+    loop-less
+    loop-again
+    same-length
+    same-length-2
+    same-length-3
+    returns)
