@@ -1,1 +1,5 @@
 pub mod RigLaws
+pub mod CallLaws
+pub mod PlaceLaws
+pub mod StepLaws
+pub mod Entering

@@ -1,24 +1,20 @@
 -- Placing a walk (01, "Stations and the widest place", "Why a walk is turned down": "Placement tests 21, 26, 27").
 use Prim.Native.Nat.{ℕ, zero, suc}
 use mathlib.Core.Path.{_≡_}
-use lib.ListN.{length}
 use Rattle.number.specs.Read.{pick}
 use Rattle.plane.specs.declared.Vec2.{Vec2}
 use Rattle.job.specs.declared.Vehicle.{Vehicle}
 use Rattle.path.specs.Laying.{PathRuns}
 use Rattle.walk.specs.declared.Walk.{Walk}
-use Rattle.walk.specs.Drawn.{view, Lengths, Call, stationAt}
+use Rattle.walk.specs.Drawn.{view, Call, stationAt}
 use Rattle.walk.specs.Tests.{lent, pathSound, vehicleSound}
 use Rattle.walk.specs.Rig.{drawnStart}
-use Rattle.reaches.specs.Cells.{Reaches, cleared}
+use Rattle.reaches.specs.Cells.{Reaches, lengthsOf, cleared}
 use Rattle.stations.specs.declared.PlaceAnswer.{PlaceAnswer}
 use Rattle.stations.specs.declared.PlaceAnswer.the-variants as P
 use Rattle.stations.specs.declared.Placing.{Placing}
 
 -- what a call lends: the stations asked for, the path's four runs and the lengths of the other three
-abbrev pub lengthsOf : Reaches → Lengths
-lengthsOf r = record { left = length (r .left); right = length (r .right); marks = length (r .marks) }
-
 abbrev pub callOf : ℕ → PathRuns → Reaches → Call
 callOf asked path r = record { asked = asked; path = path; reaches = lengthsOf r }
 
