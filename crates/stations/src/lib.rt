@@ -93,7 +93,17 @@ pub fn place(
         (reachRuns (now (left .exit)) (now (right .exit)) (now (marks .exit))) ⌝ }
 {
     let own = vehicle_refusal(v);
-    let refusal = call_refusal(asked, xs, ys, gxs, gys, left.len(), right.len(), marks.len(), own);
+    let refusal = call_refusal(
+        asked,
+        xs,
+        ys,
+        gxs,
+        gys,
+        left.len(),
+        right.len(),
+        marks.len(),
+        own,
+    );
     if refusal != 0 {
         return Placing {
             answer: PlaceAnswer::Refused(refusal),
@@ -163,7 +173,20 @@ fn advance_and_enter(
     let answer = advanced.answer;
     match answer {
         StepAnswer::Made => {
-            enter(w, advanced.walk, old, new, asked, xs, ys, gxs, gys, left, right, marks);
+            enter(
+                w,
+                advanced.walk,
+                old,
+                new,
+                asked,
+                xs,
+                ys,
+                gxs,
+                gys,
+                left,
+                right,
+                marks,
+            );
             advanced
         }
         StepAnswer::Refused(n) => advanced,
@@ -190,7 +213,17 @@ pub fn step(
         (reachRuns (now (left .exit)) (now (right .exit)) (now (marks .exit))) ⌝ }
 {
     let own = record_refusal(asked, w);
-    let refusal = call_refusal(asked, xs, ys, gxs, gys, left.len(), right.len(), marks.len(), own);
+    let refusal = call_refusal(
+        asked,
+        xs,
+        ys,
+        gxs,
+        gys,
+        left.len(),
+        right.len(),
+        marks.len(),
+        own,
+    );
     if refusal != 0 {
         return Advanced {
             answer: StepAnswer::Refused(refusal),

@@ -61,7 +61,7 @@ station-at-requires-2 : tie.Need-station-at-requires-2
 station-at-requires-2 c κs = let s = c .before .before in station-lent (path s) (s .args .asked) (s .args .w .station + 1) (lent-call (call s) (s .pre .lent) .0 .room) (next s)
 
 advance-requires : tie.Need-advance-requires
-advance-requires c κs = 
+advance-requires c κs =
     let t = c .before .before in
     let s = t .before .before .before in
     subst₂ (λ (a b : Station). AdvanceReady (s .args .w) (a .position) (b .position)) (sym (t .before .station-at .ensures)) (sym (t .station-at2 .ensures))
@@ -71,7 +71,7 @@ enum-told : tie.Need-enum-told
 enum-told c = search needs
 
 enter-requires : tie.Need-enter-requires
-enter-requires c κs = 
+enter-requires c κs =
     let a = c .before .before .before .before .before in
     let t = a .before .before .before in
     let s = t .before .before .before in
@@ -96,7 +96,7 @@ same-length-3 : tie.Need-same-length-3
 same-length-3 c = search needs
 
 returns : tie.Need-returns
-returns c = 
+returns c =
     let n = c .before .before .before .before in
     let k = n .before .before .before .before in
     let a = k .before .before in
@@ -110,13 +110,13 @@ returns c =
     ∙ ap (λ (q : Station). entered (stationAt (path s) (s .args .w .station) .position) (q .position)) (t .station-at2 .ensures))
 
 returns-2 : tie.Need-returns-2
-returns-2 c = 
+returns-2 c =
     let a = c .before .before .before in
     let s = a .before .before .before .before .before .before in
     unit-refused (s .args .w) (call s) (runs s) (s .pre) (a .advance .result) (advanced a) (λ m. refused-not-made _ (sym (ap outcomeOf (c .before .answer .given .1)) ∙ m))
 
 returns-3 : tie.Need-returns-3
-returns-3 c = 
+returns-3 c =
     let a = c .before .before .before in
     let s = a .before .before .before .before .before .before in
     unit-refused (s .args .w) (call s) (runs s) (s .pre) (a .advance .result) (advanced a) (λ m. unit-not-made _ _ (sym (ap outcomeOf (c .before .answer2 .given .1)) ∙ m))

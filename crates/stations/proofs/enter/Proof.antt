@@ -28,7 +28,7 @@ points-requires-2 : tie.Need-points-requires-2
 points-requires-2 c κs = search needs
 
 cross-requires : tie.Need-cross-requires
-cross-requires c κs = 
+cross-requires c κs =
     let p = c .before .before .before in
     let s = p .before .before .before .before .before in
     subst₂ (λ (a b : List Vec2). Crossable (s .args .asked) (path s) a b (runs s)) (sym (p .before .points .ensures)) (sym (p .points2 .ensures))
@@ -44,7 +44,7 @@ same-length-3 : tie.Need-same-length-3
 same-length-3 c = search needs
 
 returns : tie.Need-returns
-returns c = 
+returns c =
     let x = c .before .before .before .before in
     let p = x .before .before .before .before in
     let s = p .before .before .before .before .before in

@@ -83,7 +83,7 @@ same-length-3 : tie.Need-same-length-3
 same-length-3 c = search needs
 
 returns-2 : tie.Need-returns-2
-returns-2 c = 
+returns-2 c =
     let l = c .before .before .before .before .before in
     let t = l .before .before .before .before .before in
     let s = t .before .before .before .before .before in
