@@ -7,13 +7,14 @@ use native.Mathlib.Omega.{arith}
 use native.Mathlib.Numerals.{add-one}
 use lib.ListN.{length, drop, getD, drop-of-length-le}
 use lib.Seq.{drop-cons}
-use lib.IntN.{ℤ}
+use lib.IntN.{ℤ, pos}
+use lib.Signed.{leZ, ltZ}
 use Rattle.number.specs.Read.{pick}
 use Rattle.plane.specs.declared.Vec2.{Vec2}
 use Rattle.path.specs.declared.Station.{Station}
 use Rattle.walk.specs.Rig.{zeroVector}
 use Rattle.reaches.specs.declared.Cell.{Cell}
-use Rattle.reaches.specs.Crossing.{reachOf, crosses, smaller, greater, withBit, crossedBy, crossedFrom, someCrosses}
+use Rattle.reaches.specs.Crossing.{aheadOf, reachOf, crosses, smaller, greater, withBit, crossedBy, crossedFrom, someCrosses}
 use Rattle.reaches.proofs.Bits.{bits-commute, top-stays}
 use Rattle.reaches.proofs.LeastGreatest.{smaller-any-order, greater-any-order}
 
@@ -23,6 +24,16 @@ neither true b e = absurd (clash e)
     clash : true ≡ false → ⊥
     clash e = let z : _≡_ {A = ℕ} 0 1 = cc in omega arith
 neither false b e = (refl, e)
+
+-- a point crosses from below 0, and only from there
+module _ (s : Station) (old new : Vec2) where
+  pub crosses-from-below : ltZ (aheadOf s old) (pos 0) ≡ true → leZ (pos 0) (aheadOf s new) ≡ crosses s old new
+  unfolding crosses
+  crosses-from-below e = rw e
+
+  pub past-already : ltZ (aheadOf s old) (pos 0) ≡ false → false ≡ crosses s old new
+  unfolding crosses
+  past-already e = rw e
 
 -- a point that does not cross, and points none of which does
 pub not-crossed : (p : ℕ) (s : Station) (old new : Vec2) (c : Cell) → crosses s old new ≡ false → crossedBy p s old new c ≡ c

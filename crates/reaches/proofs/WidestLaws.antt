@@ -19,7 +19,7 @@ use Rattle.reaches.specs.declared.Best.{Best}
 use Rattle.reaches.specs.declared.Best.the-variants.{Nothing, Found}
 use Rattle.reaches.specs.declared.WidestAnswer.the-variants as W
 use Rattle.reaches.specs.Cells.{Reaches, cellAt}
-use Rattle.reaches.specs.Widest.{complete, width, placeOf, wider, considered, widestAmong, answerOf, widestLent, widestAnswer, IsWidest, NoneComplete, WidestPlace}
+use Rattle.reaches.specs.Widest.{complete, width, placeOf, beats, wider, considered, widestAmong, answerOf, widestLent, widestAnswer, IsWidest, NoneComplete, WidestPlace}
 use Rattle.reaches.specs.Inner.{Room}
 
 -- the loop over stations
@@ -72,6 +72,13 @@ module _ (full asked : ℕ) (r : Reaches) where
     by : (t : Bool) → ltZ a b ≡ t → a ≤ℤ b
     by true e = ltZ-true-≤ a b e
     by false e = clashℤ h (ltZ-false a b e)
+
+-- a place that beats another is wider, and one that does not is no wider
+pub beats-true : (p q : Place) → beats p q ≡ true → q .width <ℤ p .width
+beats-true p q e = ltZ-yes (of-true e)
+
+pub beats-false : (p q : Place) → beats p q ≡ false → p .width ≤ℤ q .width
+beats-false p q e = ltZ-false (q .width) (p .width) e
 
 -- what is so of the stations below n, and of station n, is so of those below n + 1
 below-next : (P : ℕ → Type 0) (n : ℕ) → ((i : ℕ) → i < n → P i) → P n → (i : ℕ) → i < suc n → P i
@@ -126,11 +133,11 @@ module _ (full n : ℕ) (r : Reaches) where
 
   compared : complete full (cellAt n r) ≡ true → (b : Best) → Right full n r b → Right full (suc n) r (wider here b)
   compared e Nothing h = beaten e (λ i l t. never-both t (h i l))
-  compared e (Found q) h = by (ltZ (q .width) (width (cellAt n r))) refl
+  compared e (Found q) h = by (beats here q) refl
     where
-      by : (t : Bool) → ltZ (q .width) (width (cellAt n r)) ≡ t → Right full (suc n) r (pick t (Found here) (Found q))
-      by true f = beaten e (λ i l t. ≤-<-trans (h .greatest i l t) (ltZ-yes (of-true f)))
-      by false f = kept q (ltZ-false (q .width) (width (cellAt n r)) f) h
+      by : (t : Bool) → beats here q ≡ t → Right full (suc n) r (pick t (Found here) (Found q))
+      by true f = beaten e (λ i l t. ≤-<-trans (h .greatest i l t) (beats-true here q f))
+      by false f = kept q (beats-false here q f) h
 
   next-right : (b : Best) → Right full n r b → Right full (suc n) r (considered full n (cellAt n r) b)
   next-right b h = by (complete full (cellAt n r)) refl

@@ -41,12 +41,12 @@ pub fn clear(asked: usize, left: &mut [i32], right: &mut [i32], marks: &mut [u8]
     requires { ⌜ Room asked (reachRuns (now left) (now right) (now marks)) ⌝ }
     ensures { λ _. ⌜ reachRuns (now (left .exit)) (now (right .exit)) (now (marks .exit)) ≡ cleared asked (reachRuns (now (left .entry)) (now (right .entry)) (now (marks .entry))) ⌝ }
 {
-    let mut i: usize = 0;
-    while i < asked {
-        left[i] = 2000000000;
-        right[i] = -2000000000;
-        marks[i] = 0;
-        i += 1;
+    let mut at: usize = 0;
+    while at < asked {
+        left[at] = 2000000000;
+        right[at] = -2000000000;
+        marks[at] = 0;
+        at += 1;
     }
 }
 
@@ -157,7 +157,7 @@ fn crossed_by_all(s: Station, olds: [Vec2; 6], news: [Vec2; 6], c: Cell) -> Cell
     next
 }
 
-// Whether any point crosses a station. It writes nothing and is small: a compiler can keep the points' places out of memory copies.
+// Whether any point crosses a station. Apart from what a crossing does, so that nothing is copied at the many stations that none crosses.
 fn some_crosses(s: Station, olds: [Vec2; 6], news: [Vec2; 6]) -> bool
     requires { ⌜ SixMoves s olds news ⌝ }
     ensures { λ r. ⌜ r ≡ someCrosses s olds news ⌝ }
