@@ -1,6 +1,6 @@
 -- The widest place: the loop over stations, what the test of 21 says, and that the answer is right.
-use Prim.Native.Nat.{ℕ, zero, suc, _+_, _≤_, _<_}
-use mathlib.Core.Path.{_≡_, refl, sym, _∙_, ap, subst}
+use Prim.Native.Nat.{ℕ, zero, suc, _+_, _<_}
+use mathlib.Core.Path.{_≡_, refl, sym, subst}
 use mathlib.Core.Bool.{Bool, true, false, _&&_}
 use mathlib.Core.Logic.{⊎-elim}
 use native.Mathlib.Nat.{eq-or-lt-of-le, le-of-suc-le-suc, not-suc-le-zero}
@@ -13,7 +13,6 @@ use lib.IntN.{ℤ}
 use lib.Signed.{_≤ℤ_, _<ℤ_, ltZ, ltZ-yes, ≤ℤ-refl, clashℤ}
 use Rattle.exact.proofs.Order.{of-true, ltZ-false, ltZ-true-≤, ≤ℤ-trans}
 use Rattle.number.specs.Read.{pick}
-use Rattle.reaches.specs.declared.Cell.{Cell}
 use Rattle.reaches.specs.declared.Place.{Place}
 use Rattle.reaches.specs.declared.Best.{Best}
 use Rattle.reaches.specs.declared.Best.the-variants.{Nothing, Found}

@@ -1,10 +1,9 @@
 -- `reaches::clear` meets its contract.
-use Prim.Native.Nat.{ℕ, _-_, _≤_}
-use mathlib.Core.Path.{_≡_, refl, sym, _∙_}
+use Prim.Native.Nat.{_-_, _≤_}
+use mathlib.Core.Path.{_≡_, refl, sym}
 use native.Mathlib.Omega.{arith}
 use borrow.Author.Needs.{needs}
 use lib.ListN.{length, length-set}
-use Rattle.reaches.specs.declared.Cell.{Cell}
 use Rattle.reaches.specs.Cells.{reachRuns, cleared, clearedCell}
 use Rattle.reaches.proofs.CellLaws.{none-yet, one-more}
 use Rattle.reaches.proofs.clear.Statement.{statement}

@@ -1,4 +1,4 @@
--- `reaches::crosses_station` meets its contract.
+-- `reaches::crossing::crosses_station` meets its contract.
 use mathlib.Core.Path.{_≡_, _∙_, ap}
 use borrow.Author.Needs.{needs}
 use lib.IntN.{pos}
@@ -6,8 +6,8 @@ use lib.Signed.{leZ}
 use Rattle.exact.proofs.Machine.{reread}
 use Rattle.reaches.specs.Crossing.{aheadOf}
 use Rattle.reaches.proofs.CrossingLaws.{crosses-from-below, past-already}
-use Rattle.reaches.proofs.crosses_station.Statement.{statement}
-use Rattle.reaches.proofs.crosses_station.Tie as tie
+use Rattle.reaches.proofs.crossing.crosses_station.Statement.{statement}
+use Rattle.reaches.proofs.crossing.crosses_station.Tie as tie
 
 ahead-of-requires : tie.Need-ahead-of-requires
 ahead-of-requires c κs = search needs
