@@ -73,11 +73,8 @@ module _ (full asked : ℕ) (r : Reaches) where
     by false e = clashℤ h (ltZ-false a b e)
 
 -- a place that beats another is wider, and one that does not is no wider
-pub beats-true : (p q : Place) → beats p q ≡ true → q .width <ℤ p .width
-beats-true p q e = ltZ-yes (of-true e)
-
-pub beats-false : (p q : Place) → beats p q ≡ false → p .width ≤ℤ q .width
-beats-false p q e = ltZ-false (q .width) (p .width) e
+beats-means : (p q : Place) → (beats p q ≡ true → q .width <ℤ p .width) × (beats p q ≡ false → p .width ≤ℤ q .width)
+beats-means p q = (λ e. ltZ-yes (of-true e), λ e. ltZ-false (q .width) (p .width) e)
 
 -- what is so of the stations below n, and of station n, is so of those below n + 1
 below-next : (P : ℕ → Type 0) (n : ℕ) → ((i : ℕ) → i < n → P i) → P n → (i : ℕ) → i < suc n → P i
@@ -135,8 +132,8 @@ module _ (full n : ℕ) (r : Reaches) where
   compared e (Found q) h = by (beats here q) refl
     where
       by : (t : Bool) → beats here q ≡ t → Right full (suc n) r (pick t (Found here) (Found q))
-      by true f = beaten e (λ i l t. ≤-<-trans (h .greatest i l t) (beats-true here q f))
-      by false f = kept q (beats-false here q f) h
+      by true f = beaten e (λ i l t. ≤-<-trans (h .greatest i l t) (beats-means here q .0 f))
+      by false f = kept q (beats-means here q .1 f) h
 
   next-right : (b : Best) → Right full n r b → Right full (suc n) r (considered full n (cellAt n r) b)
   next-right b h = by (complete full (cellAt n r)) refl
