@@ -7,7 +7,7 @@ use lib.ListN.{getD}
 use native.Mathlib.Nat as NatL
 use native.Mathlib.Omega.{arith}
 use native.Mathlib.Decide.{decLe}
-use borrow.Author.Tests.{eqb-true, eqb-false, eq-eqb, ne-eqb}
+use borrow.Author.Tests.{eqb-false, eq-eqb}
 use lib.Dec.{eqb}
 use lib.Pow.{pow-add, pow-pos}
 use Rattle.number.specs.Read.{pick}

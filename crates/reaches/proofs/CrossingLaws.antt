@@ -1,20 +1,22 @@
 -- A station that no point crosses keeps its cell; two points' crossings commute; the top bits of a mark stay.
-use Prim.Native.Nat.{ℕ, _+_, _/_, _≤_, _<_}
-use mathlib.Core.Path.{_≡_, refl, sym, _∙_, ap}
+use Prim.Native.Nat.{ℕ, zero, suc, _+_, _/_, _≤_, _<_}
+use mathlib.Core.Path.{_≡_, refl, _∙_, ap}
 use mathlib.Core.Bool.{Bool, true, false, _||_}
 use mathlib.Core.List.{List, [], _∷_}
+use native.Mathlib.Nat.{add-zero, le-of-suc-le-suc, not-suc-le-zero}
 use native.Mathlib.Omega.{arith}
 use native.Mathlib.Numerals.{add-one}
 use lib.ListN.{length, drop, getD, drop-of-length-le}
 use lib.Seq.{drop-cons}
-use lib.IntN.{ℤ}
+use lib.IntN.{ℤ, pos}
+use lib.Signed.{leZ, ltZ}
 use Rattle.number.specs.Read.{pick}
 use Rattle.plane.specs.declared.Vec2.{Vec2}
 use Rattle.path.specs.declared.Station.{Station}
 use Rattle.walk.specs.Rig.{zeroVector}
 use Rattle.reaches.specs.declared.Cell.{Cell}
-use Rattle.reaches.specs.Crossing.{reachOf, crosses, smaller, greater, withBit, crossedBy, crossedFrom, someCrosses}
-use Rattle.reaches.proofs.Bits.{bits-commute, top-stays}
+use Rattle.reaches.specs.Crossing.{aheadOf, reachOf, crosses, smaller, greater, hasBit, withBit, crossedBy, crossedFrom, someCrosses}
+use Rattle.reaches.proofs.Bits.{own-bit, other-bit, bits-commute, top-stays}
 use Rattle.reaches.proofs.LeastGreatest.{smaller-any-order, greater-any-order}
 
 neither : (a b : Bool) → (a || b) ≡ false → (a ≡ false) × (b ≡ false)
@@ -23,6 +25,16 @@ neither true b e = absurd (clash e)
     clash : true ≡ false → ⊥
     clash e = let z : _≡_ {A = ℕ} 0 1 = cc in omega arith
 neither false b e = (refl, e)
+
+-- a point crosses from below 0, and only from there
+module _ (s : Station) (old new : Vec2) where
+  pub crosses-from-below : ltZ (aheadOf s old) (pos 0) ≡ true → leZ (pos 0) (aheadOf s new) ≡ crosses s old new
+  unfolding crosses
+  crosses-from-below e = rw e
+
+  pub past-already : ltZ (aheadOf s old) (pos 0) ≡ false → false ≡ crosses s old new
+  unfolding crosses
+  past-already e = rw e
 
 -- a point that does not cross, and points none of which does
 pub not-crossed : (p : ℕ) (s : Station) (old new : Vec2) (c : Cell) → crosses s old new ≡ false → crossedBy p s old new c ≡ c
@@ -100,3 +112,43 @@ module _ (p : ℕ) (s : Station) (olds news : List Vec2) where
   pub some-end : length olds ≤ p → someCrosses s (drop p olds) (drop p news) ≡ false
   unfolding someCrosses
   some-end h = rw (drop-of-length-le olds {i = p} h)
+
+-- which bits a step sets: those of the points that cross
+module _ (p : ℕ) (s : Station) (old new : Vec2) (c : Cell) where
+  pub crossed-own-bit : hasBit p (crossedBy p s old new c .mark) ≡ (crosses s old new || hasBit p (c .mark))
+  unfolding crossedBy
+  crossed-own-bit = by (crosses s old new)
+    where
+      by : (t : Bool) → hasBit p (pick t (entered p (reachOf s old) (reachOf s new) c) c .mark) ≡ (t || hasBit p (c .mark))
+      by true = own-bit p (c .mark)
+      by false = refl
+
+  pub crossed-other-bit : (q : ℕ) → (p ≡ q → ⊥) → hasBit q (crossedBy p s old new c .mark) ≡ hasBit q (c .mark)
+  unfolding crossedBy
+  crossed-other-bit q d = by (crosses s old new)
+    where
+      by : (t : Bool) → hasBit q (pick t (entered p (reachOf s old) (reachOf s new) c) c .mark) ≡ hasBit q (c .mark)
+      by true = other-bit p q (c .mark) d
+      by false = refl
+
+-- bits below the first point's stay
+lower-bits : (p : ℕ) (s : Station) (olds news : List Vec2) (c : Cell) (q : ℕ) → q < p → hasBit q (crossedFrom p s olds news c .mark) ≡ hasBit q (c .mark)
+unfolding crossedFrom
+lower-bits p s [] news c q h = refl
+lower-bits p s (old ∷ olds) [] c q h = refl
+lower-bits p s (old ∷ olds) (new ∷ news) c q h =
+    lower-bits (p + 1) s olds news (crossedBy p s old new c) q (omega arith) ∙ crossed-other-bit p s old new c q (λ e. omega arith)
+
+-- point p + k of a step that begins with point p
+pub step-bit : (p : ℕ) (s : Station) (olds news : List Vec2) (c : Cell) (k : ℕ) → k < length olds → k < length news
+    → hasBit (p + k) (crossedFrom p s olds news c .mark) ≡ (crosses s (getD olds k zeroVector) (getD news k zeroVector) || hasBit (p + k) (c .mark))
+unfolding crossedFrom
+step-bit p s [] news c k h l = absurd (not-suc-le-zero h)
+step-bit p s (old ∷ olds) [] c k h l = absurd (not-suc-le-zero l)
+step-bit p s (old ∷ olds) (new ∷ news) c zero h l =
+    rw (add-zero p) (lower-bits (p + 1) s olds news (crossedBy p s old new c) p (omega arith) ∙ crossed-own-bit p s old new c)
+step-bit p s (old ∷ olds) (new ∷ news) c (suc k) h l =
+    let e : p + suc k ≡ p + 1 + k = omega arith in
+    rw e
+    (step-bit (p + 1) s olds news (crossedBy p s old new c) k (le-of-suc-le-suc h) (le-of-suc-le-suc l)
+    ∙ ap (λ (t : Bool). crosses s (getD olds k zeroVector) (getD news k zeroVector) || t) (crossed-other-bit p s old new c (p + 1 + k) (λ d. omega arith)))

@@ -5,3 +5,4 @@ pub mod LeastGreatest
 pub mod CrossingLaws
 pub mod ReachSizes
 pub mod WidestLaws
+pub mod Witnesses

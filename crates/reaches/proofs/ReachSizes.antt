@@ -4,8 +4,7 @@ use mathlib.Core.List.{List, [], _∷_}
 use Prim.Native.Nat.{ℕ}
 use native.Mathlib.Omega.{arith}
 use lib.Dec.{lit≤}
-use lib.IntN.{ℤ, pos, negℤ, _*ℤ_}
-use lib.Signed.{_≤ℤ_}
+use lib.IntN.{ℤ}
 use mir.Syntax.{w32}
 use mir.Val.{SFits}
 use Rattle.exact.specs.Size.{Within}
@@ -21,7 +20,7 @@ use Rattle.plane.specs.Vector.{dot, minus, rightNormal}
 use Rattle.plane.proofs.Lengths.{coordinates}
 use Rattle.path.specs.declared.Station.{Station}
 use Rattle.reaches.specs.Crossing.{reachOf}
-use Rattle.reaches.specs.Inner.{SoundStation, SizedPoint, Measurable}
+use Rattle.reaches.specs.Inner.{Measurable}
 
 -- N is a divisor
 pub length-divides : Divisor headingLength

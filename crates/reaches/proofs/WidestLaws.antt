@@ -1,6 +1,6 @@
 -- The widest place: the loop over stations, what the test of 21 says, and that the answer is right.
-use Prim.Native.Nat.{ℕ, zero, suc, _+_, _≤_, _<_}
-use mathlib.Core.Path.{_≡_, refl, sym, _∙_, ap, subst}
+use Prim.Native.Nat.{ℕ, zero, suc, _+_, _<_}
+use mathlib.Core.Path.{_≡_, refl, sym, subst}
 use mathlib.Core.Bool.{Bool, true, false, _&&_}
 use mathlib.Core.Logic.{⊎-elim}
 use native.Mathlib.Nat.{eq-or-lt-of-le, le-of-suc-le-suc, not-suc-le-zero}
@@ -13,13 +13,12 @@ use lib.IntN.{ℤ}
 use lib.Signed.{_≤ℤ_, _<ℤ_, ltZ, ltZ-yes, ≤ℤ-refl, clashℤ}
 use Rattle.exact.proofs.Order.{of-true, ltZ-false, ltZ-true-≤, ≤ℤ-trans}
 use Rattle.number.specs.Read.{pick}
-use Rattle.reaches.specs.declared.Cell.{Cell}
 use Rattle.reaches.specs.declared.Place.{Place}
 use Rattle.reaches.specs.declared.Best.{Best}
 use Rattle.reaches.specs.declared.Best.the-variants.{Nothing, Found}
 use Rattle.reaches.specs.declared.WidestAnswer.the-variants as W
 use Rattle.reaches.specs.Cells.{Reaches, cellAt}
-use Rattle.reaches.specs.Widest.{complete, width, placeOf, wider, considered, widestAmong, answerOf, widestLent, widestAnswer, IsWidest, NoneComplete, WidestPlace}
+use Rattle.reaches.specs.Widest.{complete, width, placeOf, beats, wider, considered, widestAmong, answerOf, widestLent, widestAnswer, IsWidest, NoneComplete, WidestPlace}
 use Rattle.reaches.specs.Inner.{Room}
 
 -- the loop over stations
@@ -72,6 +71,10 @@ module _ (full asked : ℕ) (r : Reaches) where
     by : (t : Bool) → ltZ a b ≡ t → a ≤ℤ b
     by true e = ltZ-true-≤ a b e
     by false e = clashℤ h (ltZ-false a b e)
+
+-- a place that beats another is wider, and one that does not is no wider
+beats-means : (p q : Place) → (beats p q ≡ true → q .width <ℤ p .width) × (beats p q ≡ false → p .width ≤ℤ q .width)
+beats-means p q = (λ e. ltZ-yes (of-true e), λ e. ltZ-false (q .width) (p .width) e)
 
 -- what is so of the stations below n, and of station n, is so of those below n + 1
 below-next : (P : ℕ → Type 0) (n : ℕ) → ((i : ℕ) → i < n → P i) → P n → (i : ℕ) → i < suc n → P i
@@ -126,11 +129,11 @@ module _ (full n : ℕ) (r : Reaches) where
 
   compared : complete full (cellAt n r) ≡ true → (b : Best) → Right full n r b → Right full (suc n) r (wider here b)
   compared e Nothing h = beaten e (λ i l t. never-both t (h i l))
-  compared e (Found q) h = by (ltZ (q .width) (width (cellAt n r))) refl
+  compared e (Found q) h = by (beats here q) refl
     where
-      by : (t : Bool) → ltZ (q .width) (width (cellAt n r)) ≡ t → Right full (suc n) r (pick t (Found here) (Found q))
-      by true f = beaten e (λ i l t. ≤-<-trans (h .greatest i l t) (ltZ-yes (of-true f)))
-      by false f = kept q (ltZ-false (q .width) (width (cellAt n r)) f) h
+      by : (t : Bool) → beats here q ≡ t → Right full (suc n) r (pick t (Found here) (Found q))
+      by true f = beaten e (λ i l t. ≤-<-trans (h .greatest i l t) (beats-means here q .0 f))
+      by false f = kept q (beats-means here q .1 f) h
 
   next-right : (b : Best) → Right full n r b → Right full (suc n) r (considered full n (cellAt n r) b)
   next-right b h = by (complete full (cellAt n r)) refl

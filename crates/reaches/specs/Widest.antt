@@ -1,9 +1,9 @@
 -- The widest place (01, "Stations and the widest place"): "the complete station with the greatest right minus left, lowest number among equals".
-use Prim.Native.Nat.{ℕ, zero, suc, _+_, _%_, _<_, _≤_}
+use Prim.Native.Nat.{ℕ, zero, suc, _+_, _%_, _<_}
 use mathlib.Core.Path.{_≡_}
 use mathlib.Core.Bool.{Bool, true, false, _&&_}
 use lib.Dec.{eqb}
-use lib.IntN.{ℤ, pos, _-ℤ_}
+use lib.IntN.{ℤ, _-ℤ_}
 use lib.Signed.{ltZ, _≤ℤ_, _<ℤ_}
 use Rattle.number.specs.Read.{pick}
 use Rattle.job.specs.Allowed.{between}
@@ -29,10 +29,14 @@ width c = c .right -ℤ c .left
 abbrev pub placeOf : ℕ → Cell → Place
 placeOf i c = record { station = i; width = width c; left = c .left; right = c .right }
 
--- the best so far, and whether a station beats it: only a greater width does, so the lowest number stays among equals
+-- whether a place beats the best before it: only a greater width does, so the lowest number stays among equals
+abbrev pub beats : Place → Place → Bool
+beats p q = ltZ (q .width) (p .width)
+
+-- the best so far, with a place more
 abbrev pub wider : Place → Best → Best
 wider p Nothing = Found p
-wider p (Found q) = pick (ltZ (q .width) (p .width)) (Found p) (Found q)
+wider p (Found q) = pick (beats p q) (Found p) (Found q)
 
 abbrev pub considered : ℕ → ℕ → Cell → Best → Best
 considered full i c b = pick (complete full c) (wider (placeOf i c) b) b

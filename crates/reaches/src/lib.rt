@@ -2,13 +2,14 @@
 use path::Station;
 use plane::Vec2;
 ghost use mathlib.Core.Path.{_≡_};
-ghost use lib.ListN.{length};
 ghost use Rattle.path.specs.Laying.{pathRuns};
 ghost use Rattle.walk.specs.Drawn.{stationAt};
 ghost use Rattle.reaches.specs.Cells.{reachRuns, cleared};
-ghost use Rattle.reaches.specs.Crossing.{aheadOf, reachOf, crosses, smaller as smallerZ, greater as greaterZ, withBit, crossedBy, crossedFrom, someCrosses, crossedStation, crossed};
+ghost use Rattle.reaches.specs.Crossing.{crossedStation, crossed};
 ghost use Rattle.reaches.specs.Widest.{sixPoints, complete as completeZ, placeOf, wider as widerOf, considered as consideredOf, widestAmong, widestLent, widestAnswer, WidestPlace};
-ghost use Rattle.reaches.specs.Inner.{Room, Measurable, Movable, PointNumber, Numbered, SixMoves, Inside, AtStation, Crossable};
+ghost use Rattle.reaches.specs.Inner.{Room, Inside, AtStation, Crossable};
+
+mod crossing;
 
 // What a station keeps: its left and right reach, and its mark.
 pub struct Cell {
@@ -41,137 +42,13 @@ pub fn clear(asked: usize, left: &mut [i32], right: &mut [i32], marks: &mut [u8]
     requires { ⌜ Room asked (reachRuns (now left) (now right) (now marks)) ⌝ }
     ensures { λ _. ⌜ reachRuns (now (left .exit)) (now (right .exit)) (now (marks .exit)) ≡ cleared asked (reachRuns (now (left .entry)) (now (right .entry)) (now (marks .entry))) ⌝ }
 {
-    let mut i: usize = 0;
-    while i < asked {
-        left[i] = 2000000000;
-        right[i] = -2000000000;
-        marks[i] = 0;
-        i += 1;
+    let mut at: usize = 0;
+    while at < asked {
+        left[at] = 2000000000;
+        right[at] = -2000000000;
+        marks[at] = 0;
+        at += 1;
     }
-}
-
-// How far ahead of a station a point lies, times the heading's length.
-fn ahead_of(s: Station, a: Vec2) -> i64
-    requires { ⌜ Measurable s a ⌝ }
-    ensures { λ r. ⌜ r ≡ aheadOf s a ⌝ }
-{
-    let p = s.position;
-    let g = s.heading;
-    let px = p.x;
-    let py = p.y;
-    let gx = g.x;
-    let gy = g.y;
-    let ax = a.x;
-    let ay = a.y;
-    (ax - px) * gx + (ay - py) * gy
-}
-
-// How far to the right of a station a point lies.
-fn reach(s: Station, a: Vec2) -> i32
-    requires { ⌜ Measurable s a ⌝ }
-    ensures { λ r. ⌜ r ≡ reachOf s a ⌝ }
-{
-    let p = s.position;
-    let g = s.heading;
-    let px = p.x;
-    let py = p.y;
-    let gx = g.x;
-    let gy = g.y;
-    let ax = a.x;
-    let ay = a.y;
-    exact::nearest((ax - px) * gy - (ay - py) * gx, 1000000) as i32
-}
-
-// Whether a point that moves from old to new crosses a station.
-// The second product is spared where the point is past the station already.
-fn crosses_station(s: Station, old: Vec2, new: Vec2) -> bool
-    requires { ⌜ Movable s old new ⌝ }
-    ensures { λ r. ⌜ r ≡ crosses s old new ⌝ }
-{
-    if ahead_of(s, old) < 0 {
-        return 0 <= ahead_of(s, new);
-    }
-    false
-}
-
-fn smaller(a: i32, b: i32) -> i32
-    ensures { λ r. ⌜ r ≡ smallerZ a b ⌝ }
-{
-    if a <= b { a } else { b }
-}
-
-fn greater(a: i32, b: i32) -> i32
-    ensures { λ r. ⌜ r ≡ greaterZ a b ⌝ }
-{
-    if a <= b { b } else { a }
-}
-
-// The bit of each point in a mark.
-const BITS: [u8; 6] = [1, 2, 4, 8, 16, 32];
-
-// The mark with a point's bit set: added where it is clear, so no other bit changes.
-fn with_bit(p: usize, mark: u8) -> u8
-    requires { ⌜ PointNumber p ⌝ }
-    ensures { λ r. ⌜ r ≡ withBit p mark ⌝ }
-{
-    let bit = BITS[p];
-    if mark / bit % 2 == 1 {
-        mark
-    } else {
-        mark + bit
-    }
-}
-
-// A station's cell after the move of one point.
-fn crossed_cell(p: usize, s: Station, old: Vec2, new: Vec2, c: Cell) -> Cell
-    requires { ⌜ Numbered p s old new ⌝ }
-    ensures { λ r. ⌜ r ≡ crossedBy p s old new c ⌝ }
-{
-    if crosses_station(s, old, new) {
-        let a = reach(s, old);
-        let b = reach(s, new);
-        let left = c.left;
-        let right = c.right;
-        return Cell {
-            left: smaller(left, smaller(a, b)),
-            right: greater(right, greater(a, b)),
-            mark: with_bit(p, c.mark),
-        };
-    }
-    c
-}
-
-// The same after the moves of all points.
-fn crossed_by_all(s: Station, olds: [Vec2; 6], news: [Vec2; 6], c: Cell) -> Cell
-    requires { ⌜ SixMoves s olds news ⌝ }
-    ensures { λ r. ⌜ r ≡ crossedFrom 0 s olds news c ⌝ }
-{
-    let mut next = c;
-    let mut p: usize = 0;
-    while p < 6 {
-        let old = olds[p];
-        let new = news[p];
-        next = crossed_cell(p, s, old, new, next);
-        p += 1;
-    }
-    next
-}
-
-// Whether any point crosses a station. It writes nothing and is small: a compiler can keep the points' places out of memory copies.
-fn some_crosses(s: Station, olds: [Vec2; 6], news: [Vec2; 6]) -> bool
-    requires { ⌜ SixMoves s olds news ⌝ }
-    ensures { λ r. ⌜ r ≡ someCrosses s olds news ⌝ }
-{
-    let mut p: usize = 0;
-    while p < 6 {
-        let old = olds[p];
-        let new = news[p];
-        if crosses_station(s, old, new) {
-            return true;
-        }
-        p += 1;
-    }
-    false
 }
 
 // A station's entries in the path's runs.
@@ -201,13 +78,13 @@ fn cross_station(
     requires { ⌜ AtStation i s olds news (reachRuns (now left) (now right) (now marks)) ⌝ }
     ensures { λ _. ⌜ reachRuns (now (left .exit)) (now (right .exit)) (now (marks .exit)) ≡ crossedStation i s olds news (reachRuns (now (left .entry)) (now (right .entry)) (now (marks .entry))) ⌝ }
 {
-    if some_crosses(s, olds, news) {
+    if crossing::some_crosses(s, olds, news) {
         let cell = Cell {
             left: left[i],
             right: right[i],
             mark: marks[i],
         };
-        let next = crossed_by_all(s, olds, news, cell);
+        let next = crossing::crossed_by_all(s, olds, news, cell);
         let l = next.left;
         let r = next.right;
         left[i] = l;

@@ -1,22 +1,21 @@
 -- `reaches::clear` meets its contract.
-use Prim.Native.Nat.{ℕ, _-_, _≤_}
-use mathlib.Core.Path.{_≡_, refl, sym, _∙_}
+use Prim.Native.Nat.{_-_, _≤_}
+use mathlib.Core.Path.{_≡_, refl, sym}
 use native.Mathlib.Omega.{arith}
 use borrow.Author.Needs.{needs}
 use lib.ListN.{length, length-set}
-use Rattle.reaches.specs.declared.Cell.{Cell}
 use Rattle.reaches.specs.Cells.{reachRuns, cleared, clearedCell}
 use Rattle.reaches.proofs.CellLaws.{none-yet, one-more}
 use Rattle.reaches.proofs.clear.Statement.{statement}
 use Rattle.reaches.proofs.clear.Tie as tie
 
 abbrev Inv-loop : tie.InvT-loop
-Inv-loop asked left₀ right₀ marks₀ i₀ left right marks i =
-    (i ≤ asked) × (length left ≡ length left₀) × (length right ≡ length right₀) × (length marks ≡ length marks₀)
-    × (reachRuns left right marks ≡ cleared i (reachRuns left₀ right₀ marks₀))
+Inv-loop asked left₀ right₀ marks₀ at₀ left right marks at =
+    (at ≤ asked) × (length left ≡ length left₀) × (length right ≡ length right₀) × (length marks ≡ length marks₀)
+    × (reachRuns left right marks ≡ cleared at (reachRuns left₀ right₀ marks₀))
 
 abbrev μ-loop : tie.MeasureT-loop
-μ-loop asked left₀ right₀ marks₀ i₀ left right marks i = asked - i
+μ-loop asked left₀ right₀ marks₀ at₀ left right marks at = asked - at
 
 loop-holds : tie.Need-loop-holds Inv-loop μ-loop
 loop-holds c = (search needs, refl, refl, refl, sym (none-yet (λ i d. clearedCell) _))
@@ -36,8 +35,8 @@ slice-set-of-right c = search needs
 slice-write-marks : tie.Need-slice-write-marks Inv-loop μ-loop
 slice-write-marks c = search needs
 
-add-i : tie.Need-add-i Inv-loop μ-loop
-add-i c = search needs
+add-at : tie.Need-add-at Inv-loop μ-loop
+add-at c = search needs
 
 loop-less : tie.Need-loop-less Inv-loop μ-loop
 loop-less c = search needs
@@ -58,7 +57,7 @@ same-length-3 c = search needs
 
 returns : tie.Need-returns Inv-loop μ-loop
 returns c =
-    let e : c .before .loop .i ≡ c .before .before .args .asked = omega arith in
+    let e : c .before .loop .at ≡ c .before .before .args .asked = omega arith in
     rw (← e) (c .before .loop .inv .4)
 
 pub clear-spec : {M : Type 1} → statement M
@@ -73,7 +72,7 @@ clear-spec =
     mul-right
     slice-set-of-right
     slice-write-marks
-    add-i
+    add-at
     loop-less
     loop-again
     same-length

@@ -1,5 +1,5 @@
 -- `reaches::considered` meets its contract.
-use mathlib.Core.Path.{_≡_, sym, _∙_}
+use mathlib.Core.Path.{sym, _∙_}
 use borrow.Author.Needs.{needs}
 use Rattle.reaches.proofs.considered.Statement.{statement}
 use Rattle.reaches.proofs.considered.Tie as tie

@@ -1,17 +1,15 @@
 -- `reaches::cross` meets its contract: after i turns the first i stations are crossed.
-use Prim.Native.Nat.{ℕ, _+_, _-_, _≤_, _<_}
+use Prim.Native.Nat.{ℕ, _-_, _≤_}
 use mathlib.Core.Path.{_≡_, refl, sym, _∙_, ap, subst}
 use mathlib.Core.List.{List}
 use native.Mathlib.Omega.{arith}
 use borrow.Author.Needs.{needs}
 use denote.Ref.{now}
-use lib.ListN.{length, getD}
 use Rattle.plane.specs.declared.Vec2.{Vec2}
 use Rattle.path.specs.declared.Station.{Station}
 use Rattle.path.specs.Laying.{PathRuns, pathRuns}
 use Rattle.path.proofs.StoreLaws.{room}
 use Rattle.walk.specs.Drawn.{stationAt}
-use Rattle.walk.specs.Rig.{zeroVector}
 use Rattle.reaches.specs.declared.Cell.{Cell}
 use Rattle.reaches.specs.Cells.{Reaches, reachRuns}
 use Rattle.reaches.specs.Crossing.{crossedFrom, crossedStation, crossed}

@@ -1,13 +1,13 @@
 -- `reaches::place_of` meets its contract: the difference of two numbers of 32 bits fits 64.
 use mathlib.Core.Path.{_≡_, sym, _∙_, ap₂, subst}
-use mathlib.Core.List.{List, [], _∷_}
+use mathlib.Core.List.{[], _∷_}
 use borrow.Author.Needs.{needs}
 use lib.IntN.{ℤ, _-ℤ_}
 use mir.Syntax.{w32}
 use mir.Val.{SFits}
 use Rattle.exact.specs.Size.{Within}
 use Rattle.exact.proofs.Polynomial.{var, _⊖_}
-use Rattle.exact.proofs.Machine.{Bounded, none, _∷ᵇ_, reread, fits, held}
+use Rattle.exact.proofs.Machine.{Bounded, none, _∷ᵇ_, fits, held}
 use Rattle.reaches.proofs.Rereading.{reread32, within32}
 use Rattle.reaches.proofs.place_of.Statement.{statement}
 use Rattle.reaches.proofs.place_of.Tie as tie

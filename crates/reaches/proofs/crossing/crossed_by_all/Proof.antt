@@ -1,13 +1,13 @@
--- `reaches::crossed_by_all` meets its contract: what the points that are left make of the cell so far is what all make of the first.
-use Prim.Native.Nat.{ℕ, _+_, _-_, _≤_, _<_}
+-- `reaches::crossing::crossed_by_all` meets its contract: what the points that are left make of the cell so far is what all make of the first.
+use Prim.Native.Nat.{_-_, _≤_, _<_}
 use mathlib.Core.Path.{_≡_, refl, sym, _∙_}
 use native.Mathlib.Omega.{arith}
 use borrow.Author.Needs.{needs}
 use lib.ListN.{length, drop}
 use Rattle.reaches.specs.Crossing.{crossedFrom}
 use Rattle.reaches.proofs.CrossingLaws.{crossed-next, crossed-end}
-use Rattle.reaches.proofs.crossed_by_all.Statement.{statement}
-use Rattle.reaches.proofs.crossed_by_all.Tie as tie
+use Rattle.reaches.proofs.crossing.crossed_by_all.Statement.{statement}
+use Rattle.reaches.proofs.crossing.crossed_by_all.Tie as tie
 
 abbrev Inv-loop : tie.InvT-loop
 Inv-loop s olds news next₀ p₀ next p =

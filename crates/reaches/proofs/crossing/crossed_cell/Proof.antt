@@ -1,12 +1,11 @@
--- `reaches::crossed_cell` meets its contract.
+-- `reaches::crossing::crossed_cell` meets its contract.
 use mathlib.Core.Path.{_≡_, sym, _∙_, ap₂}
 use borrow.Author.Needs.{needs}
-use lib.IntN.{ℤ}
 use Rattle.reaches.specs.Crossing.{reachOf, smaller, greater}
 use Rattle.reaches.proofs.Rereading.{reread32}
 use Rattle.reaches.proofs.CrossingLaws.{crossed, not-crossed}
-use Rattle.reaches.proofs.crossed_cell.Statement.{statement}
-use Rattle.reaches.proofs.crossed_cell.Tie as tie
+use Rattle.reaches.proofs.crossing.crossed_cell.Statement.{statement}
+use Rattle.reaches.proofs.crossing.crossed_cell.Tie as tie
 
 crosses-station-requires : tie.Need-crosses-station-requires
 crosses-station-requires c κs = search needs

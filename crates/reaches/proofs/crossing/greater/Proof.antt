@@ -1,10 +1,9 @@
--- `reaches::greater` meets its contract.
+-- `reaches::crossing::greater` meets its contract.
 use mathlib.Core.Path.{_≡_}
 use borrow.Author.Needs.{needs}
-use lib.IntN.{ℤ}
 use Rattle.reaches.proofs.Rereading.{reread32}
-use Rattle.reaches.proofs.greater.Statement.{statement}
-use Rattle.reaches.proofs.greater.Tie as tie
+use Rattle.reaches.proofs.crossing.greater.Statement.{statement}
+use Rattle.reaches.proofs.crossing.greater.Tie as tie
 
 module _ (c : tie.Start) where
   exact-a : reread32 (c .args .a) ≡ c .args .a

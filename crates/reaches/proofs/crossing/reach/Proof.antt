@@ -1,8 +1,8 @@
--- `reaches::reach` meets its contract: by the sizes nothing overflows, and the quotient fits 32 bits.
+-- `reaches::crossing::reach` meets its contract: by the sizes nothing overflows, and the quotient fits 32 bits.
 use mathlib.Core.Path.{_≡_, sym, _∙_, ap, subst}
 use borrow.Author.Needs.{needs}
 use lib.IntN.{ℤ}
-use mir.Syntax.{w32, w64}
+use mir.Syntax.{w32}
 use mir.Val.{SFits}
 use mir.Facts.{toZ-ofZ}
 use Rattle.exact.specs.Nearest.{nearestZ}
@@ -11,8 +11,8 @@ use Rattle.exact.proofs.Machine.{Bounded, reread, fits, held}
 use Rattle.plane.specs.Length.{headingLength}
 use Rattle.reaches.specs.Crossing.{reachOf}
 use Rattle.reaches.proofs.ReachSizes.{sizes, values, measured, ASIDE, aside, length-divides, reach-inside, fits32}
-use Rattle.reaches.proofs.reach.Statement.{statement}
-use Rattle.reaches.proofs.reach.Tie as tie
+use Rattle.reaches.proofs.crossing.reach.Statement.{statement}
+use Rattle.reaches.proofs.crossing.reach.Tie as tie
 
 module _ (c : tie.After-struct-told6) where
   abbrev s : tie.Start

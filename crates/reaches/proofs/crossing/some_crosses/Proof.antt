@@ -1,5 +1,5 @@
--- `reaches::some_crosses` meets its contract: whether any of the points that are left crosses is whether any does.
-use Prim.Native.Nat.{ℕ, _+_, _-_, _≤_, _<_}
+-- `reaches::crossing::some_crosses` meets its contract: whether any of the points that are left crosses is whether any does.
+use Prim.Native.Nat.{_+_, _-_, _≤_, _<_}
 use mathlib.Core.Path.{_≡_, refl, sym, _∙_, ap}
 use mathlib.Core.Bool.{Bool, true, false, _||_}
 use native.Mathlib.Omega.{arith}
@@ -7,8 +7,8 @@ use borrow.Author.Needs.{needs}
 use lib.ListN.{length, drop}
 use Rattle.reaches.specs.Crossing.{someCrosses}
 use Rattle.reaches.proofs.CrossingLaws.{some-next, some-end}
-use Rattle.reaches.proofs.some_crosses.Statement.{statement}
-use Rattle.reaches.proofs.some_crosses.Tie as tie
+use Rattle.reaches.proofs.crossing.some_crosses.Statement.{statement}
+use Rattle.reaches.proofs.crossing.some_crosses.Tie as tie
 
 abbrev Inv-loop : tie.InvT-loop
 Inv-loop s olds news p₀ p =

@@ -1,13 +1,11 @@
--- `reaches::with_bit` meets its contract: the table holds the powers of two, and a byte's clear bit can be added.
-use Prim.Native.Nat.{ℕ, _+_, _/_, _%_, _^_, _<_}
-use mathlib.Core.Path.{_≡_, sym}
+-- `reaches::crossing::with_bit` meets its contract: the table holds the powers of two, and a byte's clear bit can be added.
 use native.Mathlib.Omega.{arith}
 use borrow.Author.Needs.{needs}
 use borrow.Author.Tests.{eq-eqb, ne-eqb}
 use lib.Pow.{pow-pos}
-use Rattle.reaches.proofs.Bits.{bits, bits-powers, sum-byte}
-use Rattle.reaches.proofs.with_bit.Statement.{statement}
-use Rattle.reaches.proofs.with_bit.Tie as tie
+use Rattle.reaches.proofs.Bits.{bits-powers, sum-byte}
+use Rattle.reaches.proofs.crossing.with_bit.Statement.{statement}
+use Rattle.reaches.proofs.crossing.with_bit.Tie as tie
 
 array-read-bit : tie.Need-array-read-bit
 array-read-bit c = search needs

@@ -1,9 +1,9 @@
--- `reaches::ahead_of` meets its contract: by the sizes nothing overflows.
+-- `reaches::crossing::ahead_of` meets its contract: by the sizes nothing overflows.
 use Rattle.exact.proofs.Polynomial.{var, _⊖_, _⊗_}
 use Rattle.exact.proofs.Machine.{Bounded, fits, held}
 use Rattle.reaches.proofs.ReachSizes.{sizes, values, measured, AHEAD}
-use Rattle.reaches.proofs.ahead_of.Statement.{statement}
-use Rattle.reaches.proofs.ahead_of.Tie as tie
+use Rattle.reaches.proofs.crossing.ahead_of.Statement.{statement}
+use Rattle.reaches.proofs.crossing.ahead_of.Tie as tie
 
 S : (c : tie.After-struct-told6) → let a = c .before .before .before .before .before .before .before .before .args in Bounded sizes (values (a .s) (a .a))
 S c = measured (c .before .before .before .before .before .before .before .before .pre)

@@ -1,10 +1,9 @@
--- `reaches::smaller` meets its contract.
+-- `reaches::crossing::smaller` meets its contract.
 use mathlib.Core.Path.{_≡_}
 use borrow.Author.Needs.{needs}
-use lib.IntN.{ℤ}
 use Rattle.reaches.proofs.Rereading.{reread32}
-use Rattle.reaches.proofs.smaller.Statement.{statement}
-use Rattle.reaches.proofs.smaller.Tie as tie
+use Rattle.reaches.proofs.crossing.smaller.Statement.{statement}
+use Rattle.reaches.proofs.crossing.smaller.Tie as tie
 
 module _ (c : tie.Start) where
   exact-a : reread32 (c .args .a) ≡ c .args .a

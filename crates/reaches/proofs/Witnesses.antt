@@ -1,0 +1,76 @@
+-- Each requirement of this crate can be met, at the ends of its ranges too.
+use Prim.Native.Nat.{ℕ, _<_}
+use mathlib.Core.Path.{_≡_, refl, sym, subst}
+use mathlib.Core.List.{List, [], _∷_}
+use native.Mathlib.Omega.{arith}
+use lib.Dec.{lit<, lit≤}
+use lib.ListN.{getD, replicate, getD-replicate}
+use lib.IntN.{ℤ, pos, negsuc}
+use lib.Signed.{leZ-yes}
+use Rattle.plane.specs.declared.Vec2.{Vec2}
+use Rattle.path.specs.declared.Station.{Station}
+use Rattle.path.specs.Laying.{PathRuns}
+use Rattle.walk.specs.Drawn.{stationAt}
+use Rattle.walk.specs.Rig.{zeroVector}
+use Rattle.reaches.specs.Cells.{Reaches}
+use Rattle.reaches.specs.Inner.{Room, SoundStation, SizedPoint, Measurable, Movable, PointNumber, Numbered, SixMoves, Inside, AtStation, Crossable}
+
+abbrev vec : ℤ → ℤ → Vec2
+vec a b = record { x = a; y = b }
+
+-- the farthest corner, with a heading just off its length
+abbrev corner : Station
+corner = record { position = vec (pos 150000000) (negsuc 149999999); heading = vec (pos 600001) (negsuc 799999) }
+
+abbrev opposite : Vec2
+opposite = vec (negsuc 159999999) (pos 160000000)
+
+abbrev points : List Vec2
+points = replicate 6 opposite
+
+-- a path of that one station, and runs of one entry
+abbrev path : PathRuns
+path = record { xs = pos 150000000 ∷ []; ys = negsuc 149999999 ∷ []; gxs = pos 600001 ∷ []; gys = negsuc 799999 ∷ [] }
+
+abbrev runs : Reaches
+runs = record { left = pos 2147483647 ∷ []; right = negsuc 2147483647 ∷ []; marks = 255 ∷ [] }
+
+room-met : Room 1 runs
+room-met = record { left = lit≤ tt; right = lit≤ tt; marks = lit≤ tt }
+
+station-met : SoundStation corner
+station-met = record { x = record { size = lit≤ tt }; y = record { size = lit≤ tt }; heading = record { low = leZ-yes tt; high = leZ-yes tt } }
+
+point-met : SizedPoint opposite
+point-met = record { x = record { size = lit≤ tt }; y = record { size = lit≤ tt } }
+
+measurable-met : Measurable corner opposite
+measurable-met = record { station = station-met; point = point-met }
+
+movable-met : Movable corner opposite opposite
+movable-met = record { station = station-met; from = point-met; to = point-met }
+
+number-met : PointNumber 5
+number-met = record { small = lit< tt }
+
+numbered-met : Numbered 5 corner opposite opposite
+numbered-met = record { number = number-met; move = movable-met }
+
+-- all six points alike
+all-met : (p : ℕ) → p < 6 → SizedPoint (getD points p zeroVector)
+all-met p h = subst SizedPoint (sym (getD-replicate 6 p opposite zeroVector h)) point-met
+
+six-moves-met : SixMoves corner points points
+six-moves-met = record { move = λ p h. record { station = station-met; from = all-met p h; to = all-met p h } }
+
+inside-met : Inside 0 path
+inside-met = record { xs = lit< tt; ys = lit< tt; gxs = lit< tt; gys = lit< tt }
+
+at-station-met : AtStation 0 corner points points runs
+at-station-met = record { moves = six-moves-met; left = lit< tt; right = lit< tt; marks = lit< tt }
+
+stations-met : (i : ℕ) → i < 1 → SoundStation (stationAt path i)
+stations-met i h = let e : i ≡ 0 = omega arith in subst (λ (j : ℕ). SoundStation (stationAt path j)) (sym e) station-met
+
+crossable-met : Crossable 1 path points points runs
+crossable-met = record { lent = refl; room = room-met; stations = stations-met; old = all-met; new = all-met }

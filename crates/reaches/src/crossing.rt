@@ -1,0 +1,131 @@
+// What the points that cross a station make of its cell.
+use crate::Cell;
+use path::Station;
+use plane::Vec2;
+ghost use mathlib.Core.Path.{_≡_};
+ghost use Rattle.reaches.specs.Crossing.{aheadOf, reachOf, crosses, smaller as smallerZ, greater as greaterZ, withBit, crossedBy, crossedFrom, someCrosses};
+ghost use Rattle.reaches.specs.Inner.{Measurable, Movable, PointNumber, Numbered, SixMoves};
+
+// How far ahead of a station a point lies, times the heading's length.
+fn ahead_of(s: Station, a: Vec2) -> i64
+    requires { ⌜ Measurable s a ⌝ }
+    ensures { λ r. ⌜ r ≡ aheadOf s a ⌝ }
+{
+    let p = s.position;
+    let g = s.heading;
+    let px = p.x;
+    let py = p.y;
+    let gx = g.x;
+    let gy = g.y;
+    let ax = a.x;
+    let ay = a.y;
+    (ax - px) * gx + (ay - py) * gy
+}
+
+// How far to the right of a station a point lies.
+fn reach(s: Station, a: Vec2) -> i32
+    requires { ⌜ Measurable s a ⌝ }
+    ensures { λ r. ⌜ r ≡ reachOf s a ⌝ }
+{
+    let p = s.position;
+    let g = s.heading;
+    let px = p.x;
+    let py = p.y;
+    let gx = g.x;
+    let gy = g.y;
+    let ax = a.x;
+    let ay = a.y;
+    exact::nearest((ax - px) * gy - (ay - py) * gx, 1000000) as i32
+}
+
+// Whether a point that moves from old to new crosses a station.
+// The second product is spared where the point is past the station already.
+fn crosses_station(s: Station, old: Vec2, new: Vec2) -> bool
+    requires { ⌜ Movable s old new ⌝ }
+    ensures { λ r. ⌜ r ≡ crosses s old new ⌝ }
+{
+    if ahead_of(s, old) < 0 {
+        return 0 <= ahead_of(s, new);
+    }
+    false
+}
+
+fn smaller(a: i32, b: i32) -> i32
+    ensures { λ r. ⌜ r ≡ smallerZ a b ⌝ }
+{
+    if a <= b { a } else { b }
+}
+
+fn greater(a: i32, b: i32) -> i32
+    ensures { λ r. ⌜ r ≡ greaterZ a b ⌝ }
+{
+    if a <= b { b } else { a }
+}
+
+// The bit of each point in a mark.
+const BITS: [u8; 6] = [1, 2, 4, 8, 16, 32];
+
+// The mark with a point's bit set: added where it is clear, so no other bit changes.
+fn with_bit(p: usize, mark: u8) -> u8
+    requires { ⌜ PointNumber p ⌝ }
+    ensures { λ r. ⌜ r ≡ withBit p mark ⌝ }
+{
+    let bit = BITS[p];
+    if mark / bit % 2 == 1 {
+        mark
+    } else {
+        mark + bit
+    }
+}
+
+// A station's cell after the move of one point.
+fn crossed_cell(p: usize, s: Station, old: Vec2, new: Vec2, c: Cell) -> Cell
+    requires { ⌜ Numbered p s old new ⌝ }
+    ensures { λ r. ⌜ r ≡ crossedBy p s old new c ⌝ }
+{
+    if crosses_station(s, old, new) {
+        let a = reach(s, old);
+        let b = reach(s, new);
+        let left = c.left;
+        let right = c.right;
+        return Cell {
+            left: smaller(left, smaller(a, b)),
+            right: greater(right, greater(a, b)),
+            mark: with_bit(p, c.mark),
+        };
+    }
+    c
+}
+
+// The same after the moves of all points.
+pub fn crossed_by_all(s: Station, olds: [Vec2; 6], news: [Vec2; 6], c: Cell) -> Cell
+    requires { ⌜ SixMoves s olds news ⌝ }
+    ensures { λ r. ⌜ r ≡ crossedFrom 0 s olds news c ⌝ }
+{
+    let mut next = c;
+    let mut p: usize = 0;
+    while p < 6 {
+        let old = olds[p];
+        let new = news[p];
+        next = crossed_cell(p, s, old, new, next);
+        p += 1;
+    }
+    next
+}
+
+// Whether any point crosses a station. Apart from what a crossing does, so that nothing is copied at the many stations that none crosses.
+pub fn some_crosses(s: Station, olds: [Vec2; 6], news: [Vec2; 6]) -> bool
+    requires { ⌜ SixMoves s olds news ⌝ }
+    ensures { λ r. ⌜ r ≡ someCrosses s olds news ⌝ }
+{
+    let mut p: usize = 0;
+    while p < 6 {
+        let old = olds[p];
+        let new = news[p];
+        if crosses_station(s, old, new) {
+            return true;
+        }
+        p += 1;
+    }
+    false
+}
