@@ -13,7 +13,7 @@ use Rattle.path.specs.Laying.{PathRuns}
 use Rattle.walk.specs.Drawn.{stationAt}
 use Rattle.walk.specs.Rig.{zeroVector}
 use Rattle.reaches.specs.Cells.{Reaches}
-use Rattle.reaches.specs.Inner.{Room, SoundStation, SizedPoint, Measurable, Movable, PointNumber, Numbered, SixMoves, Inside, AtStation, Crossable}
+use Rattle.reaches.specs.Inner.{Room, SoundStation, SizedPoint, Measurable, Movable, PointNumber, Numbered, SixMoves, AtStation, Crossable}
 
 abbrev vec : ℤ → ℤ → Vec2
 vec a b = record { x = a; y = b }
@@ -62,9 +62,6 @@ all-met p h = subst SizedPoint (sym (getD-replicate 6 p opposite zeroVector h)) 
 
 six-moves-met : SixMoves corner points points
 six-moves-met = record { move = λ p h. record { station = station-met; from = all-met p h; to = all-met p h } }
-
-inside-met : Inside 0 path
-inside-met = record { xs = lit< tt; ys = lit< tt; gxs = lit< tt; gys = lit< tt }
 
 at-station-met : AtStation 0 corner points points runs
 at-station-met = record { moves = six-moves-met; left = lit< tt; right = lit< tt; marks = lit< tt }

@@ -54,13 +54,6 @@ pub record Numbered (p : ℕ) (s : Station) (old new : Vec2) : Type 0 where
 pub record SixMoves (s : Station) (olds news : List Vec2) : Type 0 where
   pub move : (p : ℕ) → p < 6 → Movable s (getD olds p zeroVector) (getD news p zeroVector)
 
--- an entry of a path
-pub record Inside (i : ℕ) (path : PathRuns) : Type 0 where
-  pub xs : i < length (path .xs)
-  pub ys : i < length (path .ys)
-  pub gxs : i < length (path .gxs)
-  pub gys : i < length (path .gys)
-
 -- a step at a station, whose cell is to be written
 pub record AtStation (i : ℕ) (s : Station) (olds news : List Vec2) (r : Reaches) : Type 0 where
   pub moves : SixMoves s olds news

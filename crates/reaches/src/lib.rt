@@ -3,11 +3,10 @@ use path::Station;
 use plane::Vec2;
 ghost use mathlib.Core.Path.{_≡_};
 ghost use Rattle.path.specs.Laying.{pathRuns};
-ghost use Rattle.walk.specs.Drawn.{stationAt};
 ghost use Rattle.reaches.specs.Cells.{reachRuns, cleared};
 ghost use Rattle.reaches.specs.Crossing.{crossedStation, crossed};
 ghost use Rattle.reaches.specs.Widest.{sixPoints, complete as completeZ, placeOf, wider as widerOf, considered as consideredOf, widestAmong, widestLent, widestAnswer, WidestPlace};
-ghost use Rattle.reaches.specs.Inner.{Room, Inside, AtStation, Crossable};
+ghost use Rattle.reaches.specs.Inner.{Room, AtStation, Crossable};
 
 mod crossing;
 
@@ -49,20 +48,6 @@ pub fn clear(asked: usize, left: &mut [i32], right: &mut [i32], marks: &mut [u8]
         marks[at] = 0;
         at += 1;
     }
-}
-
-// A station's entries in the path's runs.
-fn station_at(xs: &[i32], ys: &[i32], gxs: &[i32], gys: &[i32], i: usize) -> Station
-    requires { ⌜ Inside i (pathRuns (now xs) (now ys) (now gxs) (now gys)) ⌝ }
-    ensures { λ r. ⌜ r ≡ stationAt (pathRuns (now (xs .entry)) (now (ys .entry)) (now (gxs .entry)) (now (gys .entry))) i ⌝ }
-{
-    let x = plane::get(xs, i);
-    let y = plane::get(ys, i);
-    let gx = plane::get(gxs, i);
-    let gy = plane::get(gys, i);
-    let position = Vec2 { x, y };
-    let heading = Vec2 { x: gx, y: gy };
-    Station { position, heading }
 }
 
 // A made step at one station, which is not written where no point crosses it.
@@ -111,7 +96,7 @@ pub fn cross(
 {
     let mut i: usize = 0;
     while i < asked {
-        let s = station_at(xs, ys, gxs, gys, i);
+        let s = walk::tests::station_at(xs, ys, gxs, gys, i);
         cross_station(i, s, olds, news, left, right, marks);
         i += 1;
     }
