@@ -53,11 +53,11 @@ followed-end s w e (t ∷ ts) k =
     followed-end (drawStep s (t .call) .state) (t .result .walk) (ap (λ (z : Stepped). z .state) (stepped s w e t (k .0))) ts (k .1)
 
 -- an accepted placement passed its tests
-none-refused : (n : ℕ) → placeAnswer n ≡ P.Placed → n ≡ 0
+pub none-refused : (n : ℕ) → placeAnswer n ≡ P.Placed → n ≡ 0
 none-refused zero e = refl
 none-refused (suc n) e = absurd (let z : _≡_ {A = ℕ} 0 1 = cc in omega arith)
 
-passed : (a b d : Bool) → _≡_ {A = ℕ} (pick a (pick b (pick d 0 27) 26) 21) 0 → (a ≡ true) × (b ≡ true) × (d ≡ true)
+pub passed : (a b d : Bool) → _≡_ {A = ℕ} (pick a (pick b (pick d 0 27) 26) 21) 0 → (a ≡ true) × (b ≡ true) × (d ≡ true)
 passed true true true e = (refl, refl, refl)
 passed true true false e = absurd (omega arith)
 passed true false d e = absurd (omega arith)

@@ -1,1 +1,4 @@
 pub mod CallsKept
+pub mod HistoryLaws
+pub mod HistoryKept
+pub mod WholeRig

@@ -1,1 +1,2 @@
 pub mod DemandThree
+pub mod StationHistory
