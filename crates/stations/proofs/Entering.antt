@@ -49,7 +49,7 @@ crossable w w' old new asked p r e =
     }
 
 -- a rig that has its lengths, at a station of a sound path
-rig-at : (w : Walk) (p : PathRuns) (asked i : ℕ) → length (w .vehicle .units) ≡ 4 → Keeping (view w) → pathSound asked p ≡ true → i < asked → RigAt (w .vehicle) (w .d) (stationAt p i .position)
+pub rig-at : (w : Walk) (p : PathRuns) (asked i : ℕ) → length (w .vehicle .units) ≡ 4 → Keeping (view w) → pathSound asked p ≡ true → i < asked → RigAt (w .vehicle) (w .d) (stationAt p i .position)
 rig-at w p asked i n k e h = sound-rig (w .vehicle) (w .d) (stationAt p i) (keeping-ready (w .vehicle) (w .d) n (k .vehicle) (k .lengths)) (k .vehicle) (path-station p asked i e h)
 
 -- a step leaves the vehicle

@@ -4,6 +4,7 @@ pub mod VehicleTests
 pub mod VectorTests
 pub mod RecordTests
 pub mod TestWitnesses
+pub mod StepWitnesses
 pub mod DrawLaws
 pub mod UnitsLaws
 pub mod MovingLaws

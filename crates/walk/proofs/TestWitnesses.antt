@@ -25,7 +25,7 @@ abbrev unit : ℕ → ℤ → ℤ → VehicleUnit
 unit wheelbase hitch fold = record { wheelbase = wheelbase; hitch = hitch; fold = fold }
 
 -- the shortest unit, the longest, hitches ahead of and behind the axle, and the last without one
-abbrev fourUnits : Vehicle
+abbrev pub fourUnits : Vehicle
 fourUnits = record {
   count = 4;
   units = unit 5000 (pos 5000) (pos 0) ∷ unit 200000 (negsuc 199999) (negsuc 999) ∷ unit 5000 (pos 0) (pos 990) ∷ unit 200000 (pos 0) (pos 0) ∷ [];
@@ -34,6 +34,6 @@ fourUnits = record {
   «rear_half_width» = 20000;
 }
 
-vehicle-met : VehicleTested fourUnits
+pub vehicle-met : VehicleTested fourUnits
 unfolding vehicleSound vehicleFault unitsFault faultOf
 vehicle-met = record { sound = refl }
