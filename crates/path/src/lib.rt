@@ -78,7 +78,7 @@ pub fn next_cursor(c: PathCursor, e: Element, step: u32) -> PathCursor
 }
 
 // How many steps the elements in use are cut into.
-fn step_count(elements: [Element; 64], count: usize, step: u32) -> usize
+pub fn step_count(elements: [Element; 64], count: usize, step: u32) -> usize
     requires { ⌜ Accepted step count elements ⌝ }
     ensures { λ r. ⌜ r ≡ stepTotal step 0 (take count elements) ⌝ }
 {

@@ -148,7 +148,7 @@ fn considered(full: u8, i: usize, c: Cell, best: Best) -> Best
 }
 
 // The best of the stations below asked; full is the mark of a complete one.
-fn widest_among(full: u8, asked: usize, left: &[i32], right: &[i32], marks: &[u8]) -> Best
+pub fn widest_among(full: u8, asked: usize, left: &[i32], right: &[i32], marks: &[u8]) -> Best
     requires { ⌜ Room asked (reachRuns (now left) (now right) (now marks)) ⌝ }
     ensures { λ r. ⌜ r ≡ widestAmong full asked (reachRuns (now (left .entry)) (now (right .entry)) (now (marks .entry))) ⌝ }
 {
@@ -174,7 +174,7 @@ fn widest_lent(asked: usize, left: &[i32], right: &[i32], marks: &[u8]) -> bool
 }
 
 // The mark of a station that all six points have crossed.
-const SIX_POINTS: u8 = 63;
+pub const SIX_POINTS: u8 = 63;
 
 // The widest complete station, or 21, or 24 where none is complete.
 pub fn widest(asked: usize, left: &[i32], right: &[i32], marks: &[u8]) -> WidestAnswer

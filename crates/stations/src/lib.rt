@@ -146,7 +146,7 @@ fn enter(
 }
 
 // A step that no test before 22 refuses.
-fn advance_and_enter(
+pub fn advance_and_enter(
     w: Walk,
     asked: usize,
     xs: &[i32],

@@ -12,3 +12,4 @@ pub mod ReadyLaws
 pub mod UnitsKept
 pub mod StartKept
 pub mod StepKept
+pub mod SoundKept

@@ -33,7 +33,7 @@ all-placed : (g : Vec2) (us : List VehicleUnit) (rest : List Vec2) → Near g he
 all-placed g [] rest n b = tt
 all-placed g (u ∷ us) rest n b = (rule g (wheelbaseOf u) (record { wheelbase = b .0; heading = n }), all-placed g us rest n (b .1))
 
-few-units : (v : Vehicle) → vehicleSound v ≡ true → length (unitsInUse v) ≤ 4
+pub few-units : (v : Vehicle) → vehicleSound v ≡ true → length (unitsInUse v) ≤ 4
 unfolding vehicleSound
 few-units v e =
     let c = sound-vehicle v (eqb-true (vehicleFault v) 0 e) .count in

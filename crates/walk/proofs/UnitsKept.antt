@@ -53,7 +53,7 @@ sound-wheelbases v e = all-wheelbases (v .count) 0 (unitsInUse v) (sound-vehicle
 abbrev pub Kept : List VehicleUnit → List Vec2 → List Vec2 → Vec2 → Vec2 → Type 0
 Kept us ds ds' old new = AllOfLength us ds' × AllNearRigid us ds ds' old new
 
-turned-near : (d f : Vec2) (u : VehicleUnit) → Wheelbase (wheelbaseOf u) → Near d (wheelbaseOf u) (pos 2 *ℤ wheelbaseOf u) → tooFar f (wheelbaseOf u) ≡ false
+pub turned-near : (d f : Vec2) (u : VehicleUnit) → Wheelbase (wheelbaseOf u) → Near d (wheelbaseOf u) (pos 2 *ℤ wheelbaseOf u) → tooFar f (wheelbaseOf u) ≡ false
     → Near (turnedBy d f (wheelbaseOf u)) (wheelbaseOf u) (pos 2 *ℤ wheelbaseOf u) × NearRigid d f (turnedBy d f (wheelbaseOf u))
 turned-near d f u b n e =
     let k = rule d f (wheelbaseOf u) (record { wheelbase = b; near = n; move = move-of f (wheelbaseOf u) e }) in

@@ -1,0 +1,2 @@
+pub mod WalkingLaws
+pub mod CourseLaws
