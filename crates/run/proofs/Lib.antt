@@ -1,2 +1,4 @@
 pub mod WalkingLaws
 pub mod CourseLaws
+pub mod OverLaws
+pub mod RunLaws

@@ -5,7 +5,7 @@ use mathlib.Core.Bool.{Bool, true, false, _&&_}
 use native.Mathlib.Omega.{arith}
 use native.Mathlib.Numerals.{add-one}
 use native.Mathlib.Decide.{decLt}
-use borrow.Author.Tests.{leb-true}
+use borrow.Author.Tests.{leb-true, le-leb}
 use lib.IntN.{pos, natAbs, _*ℤ_}
 use Rattle.exact.specs.Size.{Within}
 use Rattle.number.specs.Field.{sizeAtMost}
@@ -38,6 +38,11 @@ sound-station s e =
       heading = near-of (s .heading) headingLength (q .1);
     }
 
+-- the test, by its parts
+pub passes : (s : Station) → Within 150000000 (s .position .x) → Within 150000000 (s .position .y) → hasLength (s .heading) headingLength ≡ true → stationSound s ≡ true
+unfolding stationSound
+passes s x y g = and (le-leb (natAbs (s .position .x)) 150000000 (x .size)) (and (le-leb (natAbs (s .position .y)) 150000000 (y .size)) g)
+
 module _ (p : PathRuns) where
   pub path-none : pathSound 0 p ≡ true
   unfolding pathSound
@@ -47,6 +52,11 @@ module _ (p : PathRuns) where
   pub path-next : (i : ℕ) → pathSound i p ≡ true → stationSound (stationAt p i) ≡ true → pathSound (i + 1) p ≡ true
   unfolding pathSound
   path-next i e s = rw add-one (and e s)
+
+  pub all-sound : (n : ℕ) → ((i : ℕ) → i < n → stationSound (stationAt p i) ≡ true) → pathSound n p ≡ true
+  unfolding pathSound
+  all-sound zero h = refl
+  all-sound (suc n) h = and (all-sound n (λ i l. h i (omega arith))) (h n (omega arith))
 
   path-at : (n i : ℕ) → pathSound n p ≡ true → i < n → stationSound (stationAt p i) ≡ true
   unfolding pathSound

@@ -1,49 +1,97 @@
+-- `run::run_over` meets its contract: placed, walked to the end, told.
+use mathlib.Core.Path.{_≡_, sym, _∙_, ap, subst}
+use lib.ListN.{length}
 use borrow.Author.Needs.{needs}
+use denote.Ref.{now}
+use Rattle.path.specs.declared.Station.{Station}
+use Rattle.path.specs.Laying.{PathRuns, pathRuns}
+use Rattle.path.proofs.TotalLaws.{unmapped}
+use Rattle.walk.specs.Drawn.{view, stationAt}
+use Rattle.walk.specs.Rig.{drawnStart}
+use Rattle.walk.specs.Moving.{StartReady}
+use Rattle.walk.proofs.PathTests.{station-lent}
+use Rattle.walk.proofs.RecordTests.{lent-call}
+use Rattle.walk.proofs.ReadyLaws.{start-ready}
+use Rattle.reaches.specs.Cells.{Reaches, reachRuns, cleared}
+use Rattle.stations.specs.Placing.{callOf}
+use Rattle.stations.proofs.Entering.{room-of}
+use Rattle.run.proofs.OverLaws.{some-asked, heading-near, placed-going, end-tellable, told-so}
 use Rattle.run.proofs.run_over.Statement.{statement}
 use Rattle.run.proofs.run_over.Tie as tie
-use Rattle.run.proofs.run_over.Reads as reads
-use Rattle.run.proofs.run_over.Lts as lts
-use Rattle.reaches.proofs.clear.Reads as clear-reads
-use Rattle.run.proofs.told.Reads as told-reads
-use Rattle.run.proofs.walk_on.Reads as walk-on-reads
-use Rattle.walk.proofs.moving.start.Reads as start-reads
-use Rattle.walk.proofs.tests.station_at.Reads as station-at-reads
 
--- src/lib.rt:143:9
+module _ (s : tie.Start) where
+  abbrev path : PathRuns
+  path = pathRuns (now (s .args .xs)) (now (s .args .ys)) (now (s .args .gxs)) (now (s .args .gys))
+
+  abbrev runs : Reaches
+  runs = reachRuns (now (s .args .left)) (now (s .args .right)) (now (s .args .marks))
+
+  places : length (s .args .v .units) ≡ 4
+  places = search (needs, unmapped)
+
+-- placed
+module _ (c : tie.After-start) where
+  abbrev clearing : tie.After-clear
+  clearing = c .before .before .before .before .before
+
+  abbrev at : tie.After-station-at
+  at = clearing .before .before .before .before .before
+
+  abbrev from : tie.Start
+  from = at .before .before
+
+  abbrev empty : Reaches
+  empty = reachRuns (clearing .clear .last .1 .0) (clearing .clear .last .1 .1 .0) (clearing .clear .last .1 .1 .1 .0)
+
+  is-clear : empty ≡ cleared (from .args .asked) (runs from)
+  is-clear = clearing .clear .ensures
+
+  is-placed : view (c .start .result) ≡ drawnStart (from .args .v) (stationAt (path from) 0 .heading)
+  is-placed = c .start .ensures ∙ ap (λ (z : Station). drawnStart (from .args .v) (z .heading)) (at .station-at .ensures)
+
 station-at-requires : tie.Need-station-at-requires
-station-at-requires c κs = ?
+station-at-requires c κs =
+    let s = c .before in
+    station-lent (path s) (s .args .asked) 0 (lent-call (callOf (s .args .asked) (path s) (runs s)) (s .pre .lent) .0 .room) (some-asked (s .args .asked) (path s) (s .args .v) (runs s) (s .pre))
 
--- src/lib.rt:145:5
 clear-requires : tie.Need-clear-requires
-clear-requires c κs = ?
+clear-requires c κs = let s = c .before .before .before .before .before .before in room-of (s .args .asked) (path s) (runs s) (s .pre .lent)
 
--- src/lib.rt:146:9
 start-requires : tie.Need-start-requires
-start-requires c κs = ?
+start-requires c κs =
+    let a = c .before .before .before .before .before .before .before .before .before in
+    let s = a .before .before in
+    subst (λ (z : Station). StartReady (s .args .v) (z .heading)) (sym (a .station-at .ensures))
+    (start-ready (s .args .v) (places s) (s .pre .vehicle) _ (heading-near (s .args .asked) (path s) (s .args .v) (runs s) (s .pre)))
 
--- src/lib.rt:147:9
 walk-on-requires : tie.Need-walk-on-requires
-walk-on-requires c κs = ?
+walk-on-requires c κs =
+    let p = c .before .before .before in
+    let s = from p in
+    placed-going (s .args .asked) (path s) (s .args .v) (runs s) (s .pre) (p .start .result) (empty p) (is-placed p) (is-clear p)
 
--- src/lib.rt:148:5
 told-requires : tie.Need-told-requires
-told-requires c κs = ?
+told-requires c κs =
+    let k = c .before .before .before .before .before .before .before in
+    let p = k .before .before .before .before in
+    let s = from p in
+    end-tellable (s .args .asked) (path s) (s .args .v) (runs s) (s .pre) (p .start .result) (empty p) (is-placed p) (is-clear p) (k .walk-on .result) _ (k .walk-on .ensures)
 
--- src/lib.rt:126:1
 same-length : tie.Need-same-length
 same-length c = search needs
 
--- src/lib.rt:126:1
 same-length-2 : tie.Need-same-length-2
 same-length-2 c = search needs
 
--- src/lib.rt:126:1
 same-length-3 : tie.Need-same-length-3
 same-length-3 c = search needs
 
--- src/lib.rt:126:1
 returns : tie.Need-returns
-returns c = ?
+returns c =
+    let k = c .before .before .before .before .before .before .before .before in
+    let p = k .before .before .before .before in
+    let s = from p in
+    told-so (s .args .asked) (path s) (s .args .v) (runs s) (s .pre) (p .start .result) (empty p) (is-placed p) (is-clear p) (k .walk-on .result) _ (k .walk-on .ensures) _ (c .told .ensures)
 
 pub run-over-spec : {M : Type 1} → statement M
 run-over-spec =
