@@ -10,10 +10,10 @@ use Rattle.heading.specs.PathTurn.{pathTurn}
 abbrev vec : ℤ → ℤ → Vec2
 vec a b = record { x = a; y = b }
 
-right-row : pathTurn (vec (pos 0) (pos 1000000)) 20000 (pos 20000) ≡ P.Turned (record { heading = vec (pos 800000) (pos 600000); shift = vec (pos 8000) (pos 16000) })
+pub right-row : pathTurn (vec (pos 0) (pos 1000000)) 20000 (pos 20000) ≡ P.Turned (record { heading = vec (pos 800000) (pos 600000); shift = vec (pos 8000) (pos 16000) })
 unfolding halfTo nearestSize nearestZ hasLength pathTurn
 right-row = refl
 
-left-row : pathTurn (vec (pos 0) (pos 1000000)) 20000 (negsuc 19999) ≡ P.Turned (record { heading = vec (negsuc 799999) (pos 600000); shift = vec (negsuc 7999) (pos 16000) })
+pub left-row : pathTurn (vec (pos 0) (pos 1000000)) 20000 (negsuc 19999) ≡ P.Turned (record { heading = vec (negsuc 799999) (pos 600000); shift = vec (negsuc 7999) (pos 16000) })
 unfolding halfTo nearestSize nearestZ hasLength pathTurn
 left-row = refl

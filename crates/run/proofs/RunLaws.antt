@@ -118,7 +118,7 @@ module _ (j : Job) (p : PathRuns) (m : ℕ) (q : PathRuns) (t : LayEnsures j p (
       record {
         answered =
             o .answered ∙ ap (λ (k : ℕ). ranOver k q (f m q)) (s .2) ∙ ap (λ (x : PathRuns). ranOver (length (stations j)) x (f m q)) (s .3) ∙ ap (ranOver (length (stations j)) (jobPath j p)) whole
-                ∙ ap (λ (k : ℕ). ranAnswer k (ranOver (length (stations j)) (jobPath j p) (jobCourse j p r))) (sym zero-refusal);
+            ∙ ap (λ (k : ℕ). ranAnswer k (ranOver (length (stations j)) (jobPath j p) (jobCourse j p r))) (sym zero-refusal);
         path = s .3 ∙ ap (λ (k : ℕ). unlessRefused k (jobPath j p) p) (sym zero-refusal);
         reaches = o .reaches ∙ ap (λ (c : Course). c .runs) whole ∙ ap (λ (k : ℕ). unlessRefused k (jobCourse j p r .runs) r) (sym zero-refusal);
       }
