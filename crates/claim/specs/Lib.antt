@@ -1,2 +1,3 @@
 pub mod DemandThree
 pub mod StationHistory
+pub mod WholeRun

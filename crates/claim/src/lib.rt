@@ -1,6 +1,7 @@
 // The claims about whole walks. The functions here run nothing; what they ensure is the claim.
 ghost use Rattle.claim.specs.DemandThree.{DemandThree};
 ghost use Rattle.claim.specs.StationHistory.{StationHistory};
+ghost use Rattle.claim.specs.WholeRun.{WholeRun};
 
 // Claim: over any list of step calls after an accepted placement the answers and the record are the drawn rig's, lengths never drift, and every drawn unit stays near the rigid one.
 pub fn demand_three()
@@ -10,4 +11,9 @@ pub fn demand_three()
 // Claim: after an accepted placement and any calls over its path, each station has a bit for just the points that crossed it in a made step, and the least and greatest of the reaches that entered.
 pub fn station_history()
     ensures { λ _. ⌜ StationHistory ⌝ }
+{}
+
+// Claim: a whole job is laying, placing and step calls until one is refused: the seven runs, the answer, the steps counted and the step named.
+pub fn whole_run()
+    ensures { λ _. ⌜ WholeRun ⌝ }
 {}
