@@ -53,7 +53,10 @@ module _ (c : tie.After-reaches-lent) where
   from = start sound
 
   tested : c .reaches-lent .result ≡ reachesLent (length (stations (j from))) (lengthsOf (runs from))
-  tested = c .reaches-lent .ensures ∙ ap (λ (n : ℕ). reachesLent n (lengthsOf (runs from))) (ap (λ (n : ℕ). n + 1) (c .before .step-count .ensures) ∙ sym (stations-count (j from)))
+  tested =
+      let e : c .reaches-lent .result ≡ reachesLent (c .before .step-count .result + 1) (lengthsOf (runs from)) = c .reaches-lent .ensures in
+      let n = ap (λ (n : ℕ). n + 1) (c .before .step-count .ensures) ∙ sym (stations-count (j from)) in
+      e ∙ ap (λ (n : ℕ). reachesLent n (lengthsOf (runs from))) n
 
 -- laid
 module _ (c : tie.After-lay) where
