@@ -61,11 +61,11 @@ vehicle-same : (w w' : Walk) (c : Call) → Open (view w) c → drawStep (view w
 vehicle-same w w' c o e =
     ap (λ (s : Drawn). s .vehicle) (sym e) ∙ ap (λ (r : Stepped). r .state .vehicle) (step-open (view w) c o) ∙ vehicle-left (view w) (turningOf (view w) c)
 
-pub enterable : (w w' : Walk) (c : Call) → length (w .vehicle .units) ≡ 4 → length (w .d) ≡ 4 → Open (view w) c → drawStep (view w) c .state ≡ view w'
+pub enterable : (w w' : Walk) (c : Call) → length (w .vehicle .units) ≡ 4 → Open (view w) c → drawStep (view w) c .state ≡ view w'
     → Enterable w w' (stationAt (c .path) (w .station) .position) (stationAt (c .path) (w .station + 1) .position) c
-enterable w w' c n m o e =
+enterable w w' c n o e =
     let n' = ap (λ (v : Vehicle). length (v .units)) (vehicle-same w w' c o e) ∙ n in
-    let k = sound-keeping (c .asked) (view w) n m (o .rig) in
+    let k = sound-keeping (c .asked) (view w) (o .rig) in
     record {
       lent = o .lent;
       path = o .path;

@@ -15,7 +15,7 @@ use Rattle.job.specs.declared.Unit.{Unit as VehicleUnit}
 use Rattle.job.specs.declared.Vehicle.{Vehicle}
 use Rattle.job.specs.Empty.{emptyUnit}
 use Rattle.walk.specs.Drawn.{Drawn}
-use Rattle.walk.specs.Tests.{vehicleSound, vectorsSound, unitsInUse, recordSound}
+use Rattle.walk.specs.Tests.{vehicleSound, vectorSound, vectorsSound, unitsInUse, recordSound}
 use Rattle.walk.specs.Units.{wheelbaseOf}
 use Rattle.walk.specs.Rig.{zeroVector}
 use Rattle.walk.specs.Rigid.{AllOfLength, Keeping}
@@ -24,19 +24,18 @@ use Rattle.walk.proofs.VehicleTests.{units-counted, units-lengths, unit-ready-a
 use Rattle.walk.proofs.RecordTests.{sound-record}
 
 -- lengths, from the test of the vectors
-all-of-length : (us : List VehicleUnit) (ds : List Vec2) → length us ≤ length ds → vectorsSound us ds ≡ true → AllOfLength us ds
-unfolding vectorsSound
-all-of-length [] ds n e = tt
-all-of-length (u ∷ us) [] n e = absurd (omega arith)
-all-of-length (u ∷ us) (d ∷ ds) n e =
+all-of-length : (us : List VehicleUnit) (ds : List Vec2) → vectorsSound us ds ≡ true → AllOfLength us ds
+unfolding vectorSound vectorsSound
+all-of-length [] ds e = tt
+all-of-length (u ∷ us) [] e = absurd (let y : _≡_ {A = ℕ} 0 1 = cc in omega arith)
+all-of-length (u ∷ us) (d ∷ ds) e =
     let b = both (hasLength d (wheelbaseOf u)) (vectorsSound us ds) e in
-    (near-of d (wheelbaseOf u) (b .0), all-of-length us ds (omega arith) (b .1))
+    (near-of d (wheelbaseOf u) (b .0), all-of-length us ds (b .1))
 
-pub sound-keeping : (asked : ℕ) (s : Drawn) → length (s .vehicle .units) ≡ 4 → length (s .vectors) ≡ 4 → recordSound asked s ≡ true → Keeping s
-sound-keeping asked s n m e =
+pub sound-keeping : (asked : ℕ) (s : Drawn) → recordSound asked s ≡ true → Keeping s
+sound-keeping asked s e =
     let r = sound-record asked s e in
-    let c = units-counted (s .vehicle) (r .vehicle) in
-    record { vehicle = r .vehicle; lengths = all-of-length (unitsInUse (s .vehicle)) (s .vectors) (omega (arith, length-take (s .vehicle .count) (s .vehicle .units))) (r .vectors) }
+    record { vehicle = r .vehicle; lengths = all-of-length (unitsInUse (s .vehicle)) (s .vectors) (r .vectors) }
 
 -- and back to the units one by one
 near-at : (us : List VehicleUnit) (ds : List Vec2) (i : ℕ) → AllOfLength us ds → i < length us

@@ -27,6 +27,6 @@ open-met = record { lent = lent-passes; path = path-passes; rig = record-passes;
 -- a rig that stays where it is
 enter-met : Enterable inLine inLine (stationAt twoStations 0 .position) (stationAt twoStations 0 .position) call
 enter-met =
-    let k = sound-keeping 2 (view inLine) refl refl record-passes in
+    let k = sound-keeping 2 (view inLine) record-passes in
     let r = rig-at inLine twoStations 2 0 refl k path-passes (omega arith) in
     record { lent = lent-passes; path = path-passes; before = r; after = r }

@@ -34,7 +34,7 @@ module _ (v : Vehicle) (places : length (v .units) ≡ 4) (e : vehicleSound v �
       let c = units-counted v e in
       let near : (i : ℕ) → i < v .count → let l = wheelbaseOf (getD (v .units) i emptyUnit) in Near (getD ds i zeroVector) l (pos 2 *ℤ l) =
       λ i h. subst (λ (u : VehicleUnit). Near (getD ds i zeroVector) (wheelbaseOf u) (pos 2 *ℤ wheelbaseOf u)) (getD-take (v .count) (v .units) i emptyUnit h)
-      (vector-near (unitsInUse v) ds i emptyUnit s (omega (arith, units-lengths v e places)) (omega arith)) in
+      (vector-near (unitsInUse v) ds i emptyUnit s (omega (arith, units-lengths v e places))) in
       record { least = c .0; most = c .1; units = λ i h. record { ready = unit-ready-at v e places i emptyUnit h; near = near i h } }
 
 -- a step from the station reached to the next, after 21, 26, 27 and 25

@@ -20,7 +20,7 @@ use Rattle.job.specs.declared.Vehicle.{Vehicle}
 use Rattle.unit.specs.Turn.{turnedBy, tooFar, placedBy, Wheelbase}
 use Rattle.unit.proofs.Placing.{rule}
 use Rattle.walk.specs.Drawn.{Drawn, Call, stationAt}
-use Rattle.walk.specs.Tests.{vehicleSound, vectorsSound, unitsInUse, recordSound, atLast}
+use Rattle.walk.specs.Tests.{vehicleSound, vectorSound, vectorsSound, unitsInUse, recordSound, atLast}
 use Rattle.walk.specs.Units.{wheelbaseOf, hitchAt, Ahead, none, behind, foldKept, Turning, turned, stopped, onto, turnUnits}
 use Rattle.walk.specs.Rig.{zeroVector, startVectors, drawnStart, turningOf}
 use Rattle.walk.proofs.UnitsKept.{AllWheelbases, sound-wheelbases, turned-near}
@@ -39,7 +39,7 @@ module _ (i : ℕ) (u : VehicleUnit) (us : List VehicleUnit) (d : Vec2) (ds ds' 
 
   by-tests : (far fold : Bool) (t : Turning) → tooFar f (wheelbaseOf u) ≡ far → pick far (stopped 22 i) (pick fold (onto d' t) (stopped 23 i)) ≡ turned ds'
       → ((xs : List Vec2) → t ≡ turned xs → vectorsSound us xs ≡ true) → vectorsSound (u ∷ us) ds' ≡ true
-  unfolding vectorsSound
+  unfolding vectorSound vectorsSound
   by-tests true fold t e q k = absurd (let z : _≡_ {A = ℕ} 0 1 = cc in omega arith)
   by-tests false false t e q k = absurd (let z : _≡_ {A = ℕ} 0 1 = cc in omega arith)
   by-tests false true (stopped m j) e q k = absurd (let z : _≡_ {A = ℕ} 0 1 = cc in omega arith)
@@ -49,7 +49,7 @@ module _ (i : ℕ) (u : VehicleUnit) (us : List VehicleUnit) (d : Vec2) (ds ds' 
       subst (λ (zs : List Vec2). vectorsSound (u ∷ us) zs ≡ true) z (and l (k xs refl))
 
 vectors-kept : (i : ℕ) (a : Ahead) (us : List VehicleUnit) (ds ds' : List Vec2) (old new : Vec2) → AllWheelbases us → vectorsSound us ds ≡ true → turnUnits i a us ds old new ≡ turned ds' → vectorsSound us ds' ≡ true
-unfolding turnUnits vectorsSound
+unfolding turnUnits vectorSound vectorsSound
 vectors-kept i a us [] ds' old new b s e = let z : [] ≡ ds' = cc in subst (λ (zs : List Vec2). vectorsSound us zs ≡ true) z s
 vectors-kept i a [] (d ∷ ds) ds' old new b s e = let z : d ∷ ds ≡ ds' = cc in subst (λ (zs : List Vec2). vectorsSound [] zs ≡ true) z s
 vectors-kept i a (u ∷ us) (d ∷ ds) ds' old new b s e =
@@ -70,7 +70,7 @@ record-kept s c ds e l t =
 
 -- a placement: each unit in use has its length, the vectors past them are zero
 zeros-pass : (n k : ℕ) → vectorsSound [] (drop n (replicate k zeroVector)) ≡ true
-unfolding vectorsSound
+unfolding vectorSound vectorsSound
 zeros-pass zero zero = refl
 zeros-pass zero (suc k) = zeros-pass zero k
 zeros-pass (suc n) zero = refl
@@ -78,7 +78,7 @@ zeros-pass (suc n) (suc k) = zeros-pass n k
 
 placed-vectors : (g : Vec2) (us : List VehicleUnit) (rest : List Vec2) → Near g headingLength (pos 2 *ℤ headingLength) → AllWheelbases us → vectorsSound [] rest ≡ true
     → vectorsSound us (map (λ (u : VehicleUnit). placedBy g (wheelbaseOf u)) us ++ rest) ≡ true
-unfolding vectorsSound
+unfolding vectorSound vectorsSound
 placed-vectors g [] rest n b z = z
 placed-vectors g (u ∷ us) rest n b z = and (of-near _ (wheelbaseOf u) (rule g (wheelbaseOf u) (record { wheelbase = b .0; heading = n }))) (placed-vectors g us rest n (b .1) z)
 

@@ -15,7 +15,7 @@ use Rattle.job.specs.Faults.{faultOf, unitsFault, vehicleFault}
 use Rattle.path.specs.Laying.{PathRuns, pathRuns}
 use Rattle.walk.specs.declared.Walk.{Walk}
 use Rattle.walk.specs.Drawn.{view, stationAt}
-use Rattle.walk.specs.Tests.{stationSound, pathSound, vehicleSound, vectorsSound, recordSound, atLast}
+use Rattle.walk.specs.Tests.{stationSound, pathSound, vehicleSound, vectorSound, vectorsSound, recordSound, atLast}
 use Rattle.walk.specs.Inner.{UnitDrawn, Placed, HitchReady, FoldReady, TurnReady, UnitsReady}
 use Rattle.walk.specs.Moving.{StartReady, AdvanceReady}
 use Rattle.walk.proofs.ReadyLaws.{start-ready, advance-ready}
@@ -35,7 +35,7 @@ unfolding pathSound stationSound hasLength
 path-passes = refl
 
 pub record-passes : recordSound 2 (view inLine) ≡ true
-unfolding recordSound vehicleSound vehicleFault unitsFault faultOf vectorsSound hasLength
+unfolding recordSound vehicleSound vehicleFault unitsFault faultOf vectorSound vectorsSound hasLength
 record-passes = refl
 
 pub one-more-station : atLast 2 (view inLine) ≡ false

@@ -41,11 +41,17 @@ vehicleSound v = eqb (vehicleFault v) 0
 abbrev pub isZero : Vec2 → Bool
 isZero d = eqb (natAbs (d .x)) 0 && eqb (natAbs (d .y)) 0
 
+-- a vector against the first of the units that are left: it has that unit's length, or is zero where no unit is left
+unfoldable pub vectorSound : List VehicleUnit → Vec2 → Bool
+vectorSound [] d = isZero d
+vectorSound (u ∷ us) d = hasLength d (pos (u .wheelbase))
+
 -- the vectors against the units in use: a vector for each, and none but zero beyond them
 unfoldable pub vectorsSound : List VehicleUnit → List Vec2 → Bool
-vectorsSound us [] = true
-vectorsSound [] (d ∷ ds) = isZero d && vectorsSound [] ds
-vectorsSound (u ∷ us) (d ∷ ds) = hasLength d (pos (u .wheelbase)) && vectorsSound us ds
+vectorsSound [] [] = true
+vectorsSound [] (d ∷ ds) = vectorSound [] d && vectorsSound [] ds
+vectorsSound (u ∷ us) [] = false
+vectorsSound (u ∷ us) (d ∷ ds) = vectorSound (u ∷ us) d && vectorsSound us ds
 
 abbrev pub unitsInUse : Vehicle → List VehicleUnit
 unitsInUse v = take (v .count) (v .units)

@@ -4,14 +4,13 @@ use job::Vehicle;
 use path::Station;
 use plane::Vec2;
 ghost use mathlib.Core.Path.{_≡_};
-ghost use mathlib.Core.List.{[], _∷_};
 ghost use Prim.Native.Nat.{_+_};
 ghost use lib.Dec.{leb};
 ghost use lib.ListN.{drop};
 ghost use Rattle.number.specs.Field.{sizeAtMost};
 ghost use Rattle.path.specs.Laying.{pathRuns};
 ghost use Rattle.walk.specs.Drawn.{view, stationAt};
-ghost use Rattle.walk.specs.Tests.{pathLent, reachesLent, stationSound, pathSound, vehicleSound, isZero, vectorsSound, unitsInUse, recordSound};
+ghost use Rattle.walk.specs.Tests.{pathLent, reachesLent, stationSound, pathSound, vehicleSound, isZero, vectorSound, vectorsSound, unitsInUse, recordSound};
 ghost use Rattle.walk.specs.TestRequires.{StationLent, PathLent, VehicleTested};
 
 // 21 for the path: the stations asked for are from 1 to 2,001, and each of its four runs has as many.
@@ -97,7 +96,7 @@ fn is_zero(d: Vec2) -> bool
 // The vector at place k: that of a unit in use has its length, any other is zero.
 fn vector_sound(v: Vehicle, k: usize, d: Vec2) -> bool
     requires { ⌜ VehicleTested v ⌝ }
-    ensures { λ r. ⌜ r ≡ vectorsSound (drop k (unitsInUse v)) (d ∷ []) ⌝ }
+    ensures { λ r. ⌜ r ≡ vectorSound (drop k (unitsInUse v)) d ⌝ }
 {
     if k < v.count {
         let units = v.units;

@@ -78,7 +78,7 @@ enter-requires c κs =
     let w' = a .advance .result .walk in
     let e = drawn (s .args .w) (call s) (runs s) (s .pre) (a .advance .result) (advanced a) in
     subst₂ (λ (p q : Station). Enterable (s .args .w) w' (p .position) (q .position) (call s)) (sym (t .before .station-at .ensures)) (sym (t .station-at2 .ensures))
-    (enterable (s .args .w) w' (call s) (places s) (vectors s) (s .pre) (sym (ap (λ (z : Stepped). z .state) e)))
+    (enterable (s .args .w) w' (call s) (places s) (s .pre) (sym (ap (λ (z : Stepped). z .state) e)))
 
 enum-known-answer : tie.Need-enum-known-answer
 enum-known-answer c = search needs

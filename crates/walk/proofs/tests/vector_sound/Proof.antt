@@ -15,7 +15,7 @@ use Rattle.job.specs.declared.Unit.{Unit as VehicleUnit}
 use Rattle.path.proofs.TotalLaws.{unmapped}
 use Rattle.unit.proofs.Turning.{wheelbase-nominal}
 use Rattle.exact.proofs.Machine.{reread}
-use Rattle.walk.specs.Tests.{vectorsSound, unitsInUse}
+use Rattle.walk.specs.Tests.{vectorSound, unitsInUse}
 use Rattle.walk.proofs.VehicleTests.{units-counted, unit-ready-at}
 use Rattle.walk.proofs.VectorTests.{vector-used, vector-unused}
 use Rattle.walk.proofs.tests.vector_sound.Statement.{statement}
@@ -36,7 +36,7 @@ module _ (c : tie.Then1) where
   abbrev u : VehicleUnit
   u = getD (s .args .v .units) (s .args .k) emptyUnit
 
-  in-use : vectorsSound (drop (s .args .k) (unitsInUse (s .args .v))) (s .args .d ∷ []) ≡ hasLength (s .args .d) (pos (u .wheelbase))
+  in-use : vectorSound (drop (s .args .k) (unitsInUse (s .args .v))) (s .args .d) ≡ hasLength (s .args .d) (pos (u .wheelbase))
   in-use =
       rw (next-of (s .args .v .units) (s .args .v .count) (s .args .k) emptyUnit (omega (arith, places s, counted s)) (c .if1 .taken))
       (vector-used u (drop (s .args .k + 1) (unitsInUse (s .args .v))) (s .args .d))

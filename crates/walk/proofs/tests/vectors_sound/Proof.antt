@@ -5,11 +5,12 @@ use mathlib.Core.Bool.{Bool, _&&_}
 use mathlib.Core.List.{List}
 use native.Mathlib.Omega.{arith}
 use borrow.Author.Needs.{needs}
-use lib.ListN.{length, drop}
+use lib.ListN.{length, drop, length-take}
 use Rattle.job.specs.declared.Vehicle.{Vehicle}
 use Rattle.plane.specs.declared.Vec2.{Vec2}
 use Rattle.walk.specs.Tests.{vectorsSound, unitsInUse}
 use Rattle.walk.proofs.VectorTests.{vectors-next, vectors-end}
+use Rattle.walk.proofs.VehicleTests.{units-counted}
 use Rattle.walk.proofs.tests.vectors_sound.Statement.{statement}
 use Rattle.walk.proofs.tests.vectors_sound.Tie as tie
 
@@ -62,7 +63,8 @@ returns-2 : tie.Need-returns-2 Inv-loop μ-loop
 returns-2 c =
     let l = c .before .loop in
     let a = c .before .before .args in
-    sym (vectors-end (unitsInUse (a .v)) (a .t2) (l .k) (omega (arith, l .inv .1, c .loop-test .left))) ∙ l .inv .2
+    let u = units-counted (a .v) (c .before .before .pre .sound) in
+    sym (vectors-end (unitsInUse (a .v)) (a .t2) (l .k) (omega (arith, u .1, length-take (a .v .count) (a .v .units), c .loop-test .left)) (omega (arith, l .inv .1, c .loop-test .left))) ∙ l .inv .2
 
 pub vectors-sound-spec : {M : Type 1} → statement M
 vectors-sound-spec =
