@@ -13,11 +13,11 @@ use Rattle.exact.proofs.Sizes.{within}
 use Rattle.exact.proofs.Machine.{Bounded, none, _∷ᵇ_}
 use Rattle.plane.specs.declared.Vec2.{Vec2}
 use Rattle.plane.specs.Vector.{normSq}
-use Rattle.plane.specs.Length.{Near, Nominal}
+use Rattle.plane.specs.Length.{headingLength, Near, Nominal}
 use Rattle.plane.specs.Drawn.{Turned, Kept}
 use Rattle.plane.proofs.Lengths.{coordinates}
 use Rattle.plane.proofs.Keeping.{rule}
-use Rattle.heading.specs.Turn.{headingLength, rotated, rotationScale, turnedBy, Tangent}
+use Rattle.heading.specs.Turn.{rotated, rotationScale, turnedBy, Tangent}
 
 -- |(q² − p²)g + 2pq·n|² = (q² + p²)²|g|²
 rotation-exact : (g : Vec2) (p q : ℤ) → normSq (rotated g p q) ≡ rotationScale p q *ℤ rotationScale p q *ℤ normSq g

@@ -18,10 +18,10 @@ use mir.Syntax.{w64}
 use mir.Val.{SFits}
 use Rattle.number.proofs.FieldCodec.{both}
 use Rattle.plane.specs.declared.Vec2.{Vec2}
-use Rattle.plane.specs.Length.{Near}
+use Rattle.plane.specs.Length.{headingLength, Near}
 use Rattle.job.specs.Allowed.{between}
 use Rattle.job.specs.Curves.{radiusAllowed}
-use Rattle.heading.specs.Turn.{headingLength, turnedBy, headingAfter, moveOf, Tangent}
+use Rattle.heading.specs.Turn.{turnedBy, headingAfter, moveOf, Tangent}
 use Rattle.heading.specs.PathTurn.{Steerable, Movable}
 use Rattle.heading.proofs.Rotation.{turned-kept, heading-within}
 use Rattle.heading.proofs.Arc.{arc-is-tangent}

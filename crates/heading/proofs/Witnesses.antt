@@ -3,8 +3,8 @@ use mathlib.Core.Path.{refl}
 use lib.IntN.{ℤ, pos, negsuc, _*ℤ_}
 use lib.Signed.{leZ-yes}
 use Rattle.plane.specs.declared.Vec2.{Vec2}
-use Rattle.plane.specs.Length.{Near}
-use Rattle.heading.specs.Turn.{headingLength, Tangent}
+use Rattle.plane.specs.Length.{headingLength, Near}
+use Rattle.heading.specs.Turn.{Tangent}
 use Rattle.heading.specs.PathTurn.{Steerable, Movable}
 
 abbrev north : Vec2

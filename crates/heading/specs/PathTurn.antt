@@ -6,13 +6,13 @@ use lib.IntN.{ℤ, pos, _*ℤ_}
 use lib.Signed.{_≤ℤ_}
 use Rattle.number.specs.Read.{pick}
 use Rattle.plane.specs.declared.Vec2.{Vec2}
-use Rattle.plane.specs.Length.{hasLength, Near}
+use Rattle.plane.specs.Length.{headingLength, hasLength, Near}
 use Rattle.job.specs.Allowed.{between}
 use Rattle.job.specs.Curves.{radiusAllowed}
 use Rattle.heading.specs.declared.Advance.{Advance}
 use Rattle.heading.specs.declared.PathTurn.{PathTurn}
 use Rattle.heading.specs.declared.PathTurn.the-variants as P
-use Rattle.heading.specs.Turn.{headingLength, headingAfter, moveOf}
+use Rattle.heading.specs.Turn.{headingAfter, moveOf}
 
 -- a step of length s on radius r: the new heading and the move
 abbrev pub advanceOf : Vec2 → ℤ → ℤ → Advance

@@ -5,12 +5,8 @@ use lib.IntN.{ℤ, pos, negsuc, negℤ, natAbs, _+ℤ_, _-ℤ_, _*ℤ_}
 use lib.Signed.{_≤ℤ_}
 use Rattle.plane.specs.declared.Vec2.{Vec2}
 use Rattle.plane.specs.Vector.{plus, times, rightNormal, nearestV}
-use Rattle.plane.specs.Length.{Near}
+use Rattle.plane.specs.Length.{headingLength, Near}
 use Rattle.plane.specs.Drawn.{drawn}
-
--- N, the nominal length of a heading
-abbrev pub headingLength : ℤ
-headingLength = pos 1000000
 
 -- the turn to the right by the half-angle tangent p / q: ((q² − p²)g + 2pq·n) / (q² + p²) with n the right-hand normal of g
 abbrev pub rotated : Vec2 → ℤ → ℤ → Vec2

@@ -5,7 +5,7 @@ use lib.IntN.{ℤ, pos, negsuc}
 use lib.Signed.{leZ}
 use Rattle.number.specs.Read.{pick}
 use Rattle.number.specs.Field.{within, sizeAtMost}
-use Rattle.plane.specs.Length.{hasLength}
+use Rattle.plane.specs.Length.{headingLength, hasLength}
 use Rattle.job.specs.declared.Curve.{Curve}
 use Rattle.job.specs.declared.Curve.the-variants.{Straight, Arc}
 use Rattle.job.specs.declared.Element.{Element}
@@ -45,7 +45,7 @@ coordinateAllowed = sizeAtMost 100000000
 
 -- "gx² + gy² differs from N² by at most 2N", with N = 1,000,000
 unfoldable pub headingAllowed : ℤ → ℤ → Bool
-headingAllowed gx gy = hasLength (record { x = gx; y = gy }) (pos 1000000)
+headingAllowed gx gy = hasLength (record { x = gx; y = gy }) headingLength
 
 abbrev pub stepAllowed : ℕ → Bool
 stepAllowed = between 100 20000

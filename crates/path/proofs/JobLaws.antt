@@ -12,7 +12,7 @@ use lib.IntN.{ℤ, pos, natAbs, _*ℤ_}
 use Rattle.exact.specs.Size.{Within}
 use Rattle.number.specs.Read.{pick}
 use Rattle.number.proofs.FieldCodec.{both}
-use Rattle.plane.specs.Length.{Near}
+use Rattle.plane.specs.Length.{headingLength, Near}
 use Rattle.plane.proofs.Lengths.{near-of}
 use Rattle.job.specs.declared.Element.{Element}
 use Rattle.job.specs.declared.Start.{Start}
@@ -22,7 +22,6 @@ use Rattle.job.specs.Steps.{tally, stepsAllowed}
 use Rattle.job.specs.Empty.{emptyElement}
 use Rattle.job.specs.Faults.{judge, orFault, faultOf, elementFault, totalFault, elementsFault}
 use Rattle.job.proofs.FaultLaws.{sound, or-none, first-none, fault-at}
-use Rattle.heading.specs.Turn.{headingLength}
 use Rattle.path.specs.declared.Station.{Station}
 use Rattle.path.specs.declared.Laid.{Laid}
 use Rattle.path.specs.declared.Laid.the-variants as L

@@ -15,11 +15,10 @@ use Rattle.exact.specs.Size.{Within}
 use Rattle.exact.proofs.Sizes.{within-more}
 use Rattle.number.specs.Read.{pick}
 use Rattle.number.proofs.FieldCodec.{both}
-use Rattle.plane.specs.Length.{Near}
+use Rattle.plane.specs.Length.{headingLength, Near}
 use Rattle.job.specs.declared.Element.{Element}
 use Rattle.job.specs.Allowed.{lengthAllowed, curveAllowed, elementAllowed}
 use Rattle.job.specs.Empty.{emptyElement}
-use Rattle.heading.specs.Turn.{headingLength}
 use Rattle.path.specs.declared.Station.{Station}
 use Rattle.path.specs.declared.PathCursor.{PathCursor}
 use Rattle.path.specs.Stations.{Step, stepsOn, stationAfter, nextStation, stationsFrom}

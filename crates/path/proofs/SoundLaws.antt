@@ -12,7 +12,7 @@ use lib.IntN.{ℤ, pos, _*ℤ_}
 use Rattle.exact.specs.Size.{Within}
 use Rattle.exact.proofs.Sizes.{within-more}
 use Rattle.number.proofs.FieldCodec.{both}
-use Rattle.plane.specs.Length.{Near}
+use Rattle.plane.specs.Length.{headingLength, Near}
 use Rattle.plane.proofs.Lengths.{of-near}
 use Rattle.job.specs.declared.Curve.{Curve}
 use Rattle.job.specs.declared.Element.{Element}
@@ -21,7 +21,6 @@ use Rattle.job.specs.Allowed.{lengthAllowed, curveAllowed, elementAllowed}
 use Rattle.job.specs.Steps.{tally}
 use Rattle.job.specs.Faults.{judge, faultOf, elementFault, totalFault, elementsFault}
 use Rattle.job.proofs.FaultLaws.{sound, or-none, first-none}
-use Rattle.heading.specs.Turn.{headingLength}
 use Rattle.path.specs.declared.Station.{Station}
 use Rattle.path.specs.Cuts.{Cut, cut, fullSteps, shorterStep, cutsFrom, cuts}
 use Rattle.path.specs.Stations.{Step, stepsOn, nextStation, stationsFrom, startStation, stations}

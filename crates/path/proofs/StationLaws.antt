@@ -9,13 +9,13 @@ use Rattle.exact.proofs.Order.{pos-≤}
 use Rattle.exact.proofs.Sizes.{within-add, within-more}
 use Rattle.plane.specs.declared.Vec2.{Vec2}
 use Rattle.plane.specs.Vector.{Moderate}
-use Rattle.plane.specs.Length.{Near}
+use Rattle.plane.specs.Length.{headingLength, Near}
 use Rattle.job.specs.declared.Curve.{Curve}
 use Rattle.job.specs.declared.Curve.the-variants.{Straight, Arc}
 use Rattle.job.specs.declared.Side.the-variants.{Left, Right}
 use Rattle.job.specs.Allowed.{curveAllowed}
 use Rattle.job.specs.Curves.{radiusOf, radiusAllowed}
-use Rattle.heading.specs.Turn.{headingLength, headingAfter, moveOf}
+use Rattle.heading.specs.Turn.{headingAfter, moveOf}
 use Rattle.heading.specs.PathTurn.{advanceOf, Steerable, Movable}
 use Rattle.heading.proofs.Steering.{after-near, move-within}
 use Rattle.path.specs.declared.Station.{Station}

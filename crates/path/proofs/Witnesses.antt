@@ -8,13 +8,12 @@ use lib.Dec.{lit≤}
 use lib.IntN.{ℤ, pos, negsuc, _*ℤ_}
 use lib.Signed.{leZ-yes}
 use lib.ListN.{set, take, getD}
-use Rattle.plane.specs.Length.{Near}
+use Rattle.plane.specs.Length.{headingLength, Near}
 use Rattle.job.specs.declared.Curve.the-variants.{Arc}
 use Rattle.job.specs.declared.Side.the-variants.{Left}
 use Rattle.job.specs.declared.Element.{Element}
 use Rattle.job.specs.Allowed.{elementAllowed}
 use Rattle.job.specs.Empty.{emptyElement, emptyElements}
-use Rattle.heading.specs.Turn.{headingLength}
 use Rattle.path.specs.declared.Station.{Station}
 use Rattle.path.specs.declared.PathCursor.{PathCursor}
 use Rattle.path.specs.Stations.{stepTotal}

@@ -6,11 +6,10 @@ use lib.Dec.{leb, ltb}
 use lib.IntN.{ℤ, pos, _*ℤ_}
 use Rattle.number.specs.Read.{pick}
 use Rattle.plane.specs.Vector.{Moderate}
-use Rattle.plane.specs.Length.{Near}
+use Rattle.plane.specs.Length.{headingLength, Near}
 use Rattle.job.specs.declared.Curve.{Curve}
 use Rattle.job.specs.declared.Element.{Element}
 use Rattle.job.specs.Allowed.{curveAllowed}
-use Rattle.heading.specs.Turn.{headingLength}
 use Rattle.path.specs.declared.Station.{Station}
 use Rattle.path.specs.declared.PathCursor.{PathCursor}
 use Rattle.path.specs.Stations.{stationAfter}

@@ -5,10 +5,9 @@ use mathlib.Core.Bool.{true}
 use lib.ListN.{length, take, getD}
 use lib.IntN.{pos}
 use Rattle.exact.specs.Size.{Within}
-use Rattle.plane.specs.Length.{hasLength}
+use Rattle.plane.specs.Length.{headingLength, hasLength}
 use Rattle.job.specs.declared.Job.{Job}
 use Rattle.job.specs.Faults.{judge}
-use Rattle.heading.specs.Turn.{headingLength}
 use Rattle.path.specs.declared.Station.{Station}
 use Rattle.path.specs.declared.Laid.the-variants as L
 use Rattle.path.specs.Stations.{stepTotal, startStation, stations}

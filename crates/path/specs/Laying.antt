@@ -9,13 +9,12 @@ use lib.Dec.{leb, eqb}
 use lib.IntN.{ℤ, pos, _*ℤ_}
 use Rattle.exact.specs.Size.{Within}
 use Rattle.number.specs.Read.{pick}
-use Rattle.plane.specs.Length.{Near}
+use Rattle.plane.specs.Length.{headingLength, Near}
 use Rattle.job.specs.declared.Element.{Element}
 use Rattle.job.specs.declared.Job.{Job}
 use Rattle.job.specs.Allowed.{elementAllowed}
 use Rattle.job.specs.Empty.{emptyElement}
 use Rattle.job.specs.Faults.{judge}
-use Rattle.heading.specs.Turn.{headingLength}
 use Rattle.path.specs.declared.Station.{Station}
 use Rattle.path.specs.declared.Laid.{Laid}
 use Rattle.path.specs.declared.Laid.the-variants as L

@@ -12,8 +12,9 @@ use Rattle.path.specs.declared.Station.{Station}
 use Rattle.path.specs.Laying.{PathRuns}
 use Rattle.walk.specs.Drawn.{stationAt}
 use Rattle.walk.specs.Rig.{zeroVector}
+use Rattle.walk.specs.TestRequires.{SoundStation}
 use Rattle.reaches.specs.Cells.{Reaches}
-use Rattle.reaches.specs.Inner.{Room, SoundStation, SizedPoint, Measurable, Movable, PointNumber, Numbered, SixMoves, AtStation, Crossable}
+use Rattle.reaches.specs.Inner.{Room, SizedPoint, Measurable, Movable, PointNumber, Numbered, SixMoves, AtStation, Crossable}
 
 abbrev vec : ℤ → ℤ → Vec2
 vec a b = record { x = a; y = b }

@@ -4,13 +4,13 @@ use mathlib.Core.Path.{_≡_}
 use mathlib.Core.Bool.{true}
 use mathlib.Core.List.{List}
 use lib.ListN.{length, getD}
-use lib.IntN.{ℤ, pos, _*ℤ_}
+use lib.IntN.{ℤ, pos}
 use Rattle.exact.specs.Size.{Within}
 use Rattle.plane.specs.declared.Vec2.{Vec2}
-use Rattle.plane.specs.Length.{headingLength, Near}
 use Rattle.path.specs.declared.Station.{Station}
 use Rattle.path.specs.Laying.{PathRuns, roomFor}
 use Rattle.walk.specs.Drawn.{stationAt}
+use Rattle.walk.specs.TestRequires.{SoundStation}
 use Rattle.walk.specs.Rig.{zeroVector}
 use Rattle.reaches.specs.Cells.{Reaches}
 
@@ -19,12 +19,6 @@ pub record Room (asked : ℕ) (r : Reaches) : Type 0 where
   pub left : asked ≤ length (r .left)
   pub right : asked ≤ length (r .right)
   pub marks : asked ≤ length (r .marks)
-
--- a station as refusal 26 lets it pass
-pub record SoundStation (s : Station) : Type 0 where
-  pub x : Within 150000000 (s .position .x)
-  pub y : Within 150000000 (s .position .y)
-  pub heading : Near (s .heading) headingLength (pos 2 *ℤ headingLength)
 
 -- a point of a rig whose front point is at a sound station
 pub record SizedPoint (a : Vec2) : Type 0 where

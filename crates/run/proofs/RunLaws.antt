@@ -16,7 +16,7 @@ use Rattle.path.specs.declared.Laid.{Laid}
 use Rattle.path.specs.declared.Laid.the-variants as L
 use Rattle.path.specs.Stations.{stations}
 use Rattle.path.specs.Laying.{PathRuns, roomFor, written, layAnswer, laidRuns, LayEnsures}
-use Rattle.path.specs.LaidPath.{SoundStation, stationAt as jobStation, entryAt}
+use Rattle.path.specs.LaidPath.{stationAt as jobStation}
 use Rattle.path.proofs.JobLaws.{stations-answered, stations-count}
 use Rattle.path.proofs.LayLaws.{room-for-fewer}
 use Rattle.path.proofs.EntryLaws.{written-lengths, path-in-runs}

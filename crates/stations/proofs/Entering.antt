@@ -24,7 +24,7 @@ use Rattle.points.specs.Requires.{RigAt}
 use Rattle.points.proofs.PointLaws.{points-sized}
 use Rattle.points.proofs.SoundRig.{sound-rig}
 use Rattle.reaches.specs.Cells.{Reaches}
-use Rattle.reaches.specs.Inner.{Room, SoundStation, SizedPoint, Crossable}
+use Rattle.reaches.specs.Inner.{Room, SizedPoint, Crossable}
 use Rattle.stations.specs.Placing.{callOf}
 use Rattle.stations.specs.Inner.{Enterable, Open}
 use Rattle.stations.proofs.CallLaws.{step-open}
@@ -43,7 +43,7 @@ crossable w w' old new asked p r e =
     record {
       lent = lent-call (callOf asked p r) (e .lent) .0 .room;
       room = room-of asked p r (e .lent);
-      stations = λ i h. let s = path-station p asked i (e .path) h in record { x = s .x; y = s .y; heading = s .heading };
+      stations = λ i h. path-station p asked i (e .path) h;
       old = sized w old (e .before);
       new = sized w' new (e .after);
     }

@@ -17,14 +17,9 @@ use Rattle.path.specs.Laying.{PathRuns, roomFor}
 use Rattle.path.proofs.StoreLaws.{room}
 use Rattle.walk.specs.Drawn.{stationAt}
 use Rattle.walk.specs.Tests.{stationSound, pathSound}
-use Rattle.walk.specs.TestRequires.{StationLent}
+use Rattle.walk.specs.TestRequires.{StationLent, SoundStation}
 
--- what a sound station is
-pub record SoundStation (s : Station) : Type 0 where
-  pub x : Within 150000000 (s .position .x)
-  pub y : Within 150000000 (s .position .y)
-  pub heading : Near (s .heading) headingLength (pos 2 *ℤ headingLength)
-
+-- a station that passed is sound
 pub sound-station : (s : Station) → stationSound s ≡ true → SoundStation s
 unfolding stationSound
 sound-station s e =

@@ -7,7 +7,8 @@ use Rattle.exact.proofs.Machine.{Bounded, reread, computed, fits, held}
 use Rattle.plane.specs.declared.Vec2.{Vec2}
 use Rattle.plane.specs.Drawn.{drawn, Drawable}
 use Rattle.plane.proofs.Keeping.{turned-drawable}
-use Rattle.heading.specs.Turn.{headingLength, rotated, rotationScale}
+use Rattle.plane.specs.Length.{headingLength}
+use Rattle.heading.specs.Turn.{rotated, rotationScale}
 use Rattle.heading.proofs.Rotation.{tangent-bounds, tangent-turned}
 use Rattle.heading.proofs.turn_heading.Statement.{statement}
 use Rattle.heading.proofs.turn_heading.Tie as tie

@@ -11,11 +11,10 @@ use mir.Facts.{toZ-ofZ}
 use Rattle.exact.proofs.Order.{pos-≤}
 use Rattle.exact.proofs.Machine.{reread}
 use Rattle.number.proofs.FieldCodec.{both}
-use Rattle.plane.specs.Length.{hasLength}
+use Rattle.plane.specs.Length.{headingLength, hasLength}
 use Rattle.plane.proofs.Lengths.{near-of}
 use Rattle.job.specs.Allowed.{between}
 use Rattle.job.specs.Curves.{radiusAllowed}
-use Rattle.heading.specs.Turn.{headingLength}
 use Rattle.heading.specs.PathTurn.{pathTurn, Steerable}
 use Rattle.heading.proofs.turn_path.Statement.{statement}
 use Rattle.heading.proofs.turn_path.Tie as tie
