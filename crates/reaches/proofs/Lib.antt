@@ -6,3 +6,4 @@ pub mod CrossingLaws
 pub mod ReachSizes
 pub mod WidestLaws
 pub mod Witnesses
+pub mod FarLaws

@@ -6,7 +6,7 @@ use native.Mathlib.Omega.{arith}
 use lib.Dec.{lit<, lit≤}
 use lib.ListN.{getD, replicate, getD-replicate}
 use lib.IntN.{ℤ, pos, negsuc}
-use lib.Signed.{leZ-yes}
+use lib.Signed.{_≤ℤ_, leZ-yes}
 use Rattle.plane.specs.declared.Vec2.{Vec2}
 use Rattle.path.specs.declared.Station.{Station}
 use Rattle.path.specs.Laying.{PathRuns}
@@ -14,7 +14,8 @@ use Rattle.walk.specs.Drawn.{stationAt}
 use Rattle.walk.specs.Rig.{zeroVector}
 use Rattle.walk.specs.TestRequires.{SoundStation}
 use Rattle.reaches.specs.Cells.{Reaches}
-use Rattle.reaches.specs.Inner.{Room, SizedPoint, Measurable, Movable, PointNumber, Numbered, SixMoves, AtStation, Crossable}
+use Rattle.reaches.specs.Inner.{Room, SizedPoint, Measurable, Movable, PointNumber, Numbered, SixMoves, Crossable}
+use Rattle.reaches.specs.Far.{apart, Spread, Sized, BothSized, SixSized, Measured, AtStation}
 
 abbrev vec : ℤ → ℤ → Vec2
 vec a b = record { x = a; y = b }
@@ -64,8 +65,27 @@ all-met p h = subst SizedPoint (sym (getD-replicate 6 p opposite zeroVector h)) 
 six-moves-met : SixMoves corner points points
 six-moves-met = record { move = λ p h. record { station = station-met; from = all-met p h; to = all-met p h } }
 
-at-station-met : AtStation 0 corner points points runs
-at-station-met = record { moves = six-moves-met; left = lit< tt; right = lit< tt; marks = lit< tt }
+-- they do not spread at all
+spread-met : Spread points points (pos 0)
+spread-met = record { old = together; new = together; size = record { size = lit≤ tt } }
+  where
+    together : (p : ℕ) → p < 6 → apart (getD points 0 zeroVector) (getD points p zeroVector) ≤ℤ pos 0
+    together p h = subst (λ (a : Vec2). apart opposite a ≤ℤ pos 0) (sym (getD-replicate 6 p opposite zeroVector h)) (leZ-yes tt)
+
+sized-met : Sized (pos 320000000)
+sized-met = record { size = record { size = lit≤ tt } }
+
+both-met : BothSized opposite opposite
+both-met = record { first = point-met; second = point-met }
+
+six-met : SixSized points points
+six-met = record { old = all-met; new = all-met }
+
+measured-met : Measured corner opposite (pos 640000000)
+measured-met = record { point = measurable-met; near = record { size = lit≤ tt } }
+
+at-station-met : AtStation 0 corner points points (pos 0) runs
+at-station-met = record { moves = six-moves-met; spread = spread-met; left = lit< tt; right = lit< tt; marks = lit< tt }
 
 stations-met : (i : ℕ) → i < 1 → SoundStation (stationAt path i)
 stations-met i h = let e : i ≡ 0 = omega arith in subst (λ (j : ℕ). SoundStation (stationAt path j)) (sym e) station-met

@@ -48,13 +48,6 @@ pub record Numbered (p : ℕ) (s : Station) (old new : Vec2) : Type 0 where
 pub record SixMoves (s : Station) (olds news : List Vec2) : Type 0 where
   pub move : (p : ℕ) → p < 6 → Movable s (getD olds p zeroVector) (getD news p zeroVector)
 
--- a step at a station, whose cell is to be written
-pub record AtStation (i : ℕ) (s : Station) (olds news : List Vec2) (r : Reaches) : Type 0 where
-  pub moves : SixMoves s olds news
-  pub left : i < length (r .left)
-  pub right : i < length (r .right)
-  pub marks : i < length (r .marks)
-
 -- a step over a path
 pub record Crossable (asked : ℕ) (path : PathRuns) (olds news : List Vec2) (r : Reaches) : Type 0 where
   pub lent : roomFor asked path ≡ true

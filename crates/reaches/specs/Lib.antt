@@ -2,3 +2,4 @@ pub mod Cells
 pub mod Crossing
 pub mod Widest
 pub mod Inner
+pub mod Far

@@ -7,7 +7,7 @@ ghost use Rattle.reaches.specs.Crossing.{aheadOf, reachOf, crosses, smal
 ghost use Rattle.reaches.specs.Inner.{Measurable, Movable, PointNumber, Numbered, SixMoves};
 
 // How far ahead of a station a point lies, times the heading's length.
-fn ahead_of(s: Station, a: Vec2) -> i64
+pub fn ahead_of(s: Station, a: Vec2) -> i64
     requires { ⌜ Measurable s a ⌝ }
     ensures { λ r. ⌜ r ≡ aheadOf s a ⌝ }
 {

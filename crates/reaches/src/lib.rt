@@ -6,9 +6,11 @@ ghost use Rattle.path.specs.Laying.{pathRuns};
 ghost use Rattle.reaches.specs.Cells.{reachRuns, cleared};
 ghost use Rattle.reaches.specs.Crossing.{crossedStation, crossed};
 ghost use Rattle.reaches.specs.Widest.{sixPoints, complete as completeZ, placeOf, wider as widerOf, considered as consideredOf, widestAmong, widestLent, widestAnswer, WidestPlace};
-ghost use Rattle.reaches.specs.Inner.{Room, AtStation, Crossable};
+ghost use Rattle.reaches.specs.Inner.{Room, Crossable};
+ghost use Rattle.reaches.specs.Far.{AtStation};
 
 mod crossing;
+mod far;
 
 // What a station keeps: its left and right reach, and its mark.
 pub struct Cell {
@@ -50,19 +52,24 @@ pub fn clear(asked: usize, left: &mut [i32], right: &mut [i32], marks: &mut [u8]
     }
 }
 
-// A made step at one station, which is not written where no point crosses it.
+// A made step at one station, which is not written where no point crosses it; near is how far the points spread.
 fn cross_station(
     i: usize,
     s: Station,
     olds: [Vec2; 6],
     news: [Vec2; 6],
+    near: i64,
     left: &mut [i32],
     right: &mut [i32],
     marks: &mut [u8],
 )
-    requires { ⌜ AtStation i s olds news (reachRuns (now left) (now right) (now marks)) ⌝ }
+    requires { ⌜ AtStation i s olds news near (reachRuns (now left) (now right) (now marks)) ⌝ }
     ensures { λ _. ⌜ reachRuns (now (left .exit)) (now (right .exit)) (now (marks .exit)) ≡ crossedStation i s olds news (reachRuns (now (left .entry)) (now (right .entry)) (now (marks .entry))) ⌝ }
 {
+    let first = olds[0];
+    if far::far_off(s, first, near) {
+        return;
+    }
     if crossing::some_crosses(s, olds, news) {
         let cell = Cell {
             left: left[i],
@@ -94,10 +101,11 @@ pub fn cross(
     requires { ⌜ Crossable asked (pathRuns (now xs) (now ys) (now gxs) (now gys)) olds news (reachRuns (now left) (now right) (now marks)) ⌝ }
     ensures { λ _. ⌜ reachRuns (now (left .exit)) (now (right .exit)) (now (marks .exit)) ≡ crossed asked (pathRuns (now (xs .entry)) (now (ys .entry)) (now (gxs .entry)) (now (gys .entry))) olds news (reachRuns (now (left .entry)) (now (right .entry)) (now (marks .entry))) ⌝ }
 {
+    let near = far::spread(olds, news);
     let mut i: usize = 0;
     while i < asked {
         let s = walk::tests::station_at(xs, ys, gxs, gys, i);
-        cross_station(i, s, olds, news, left, right, marks);
+        cross_station(i, s, olds, news, near, left, right, marks);
         i += 1;
     }
 }

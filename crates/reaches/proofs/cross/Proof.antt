@@ -5,6 +5,8 @@ use mathlib.Core.List.{List}
 use native.Mathlib.Omega.{arith}
 use borrow.Author.Needs.{needs}
 use denote.Ref.{now}
+use lib.IntN.{ℤ}
+use Rattle.exact.proofs.Machine.{reread}
 use Rattle.plane.specs.declared.Vec2.{Vec2}
 use Rattle.path.specs.declared.Station.{Station}
 use Rattle.path.specs.Laying.{PathRuns, pathRuns}
@@ -13,7 +15,8 @@ use Rattle.walk.specs.Drawn.{stationAt}
 use Rattle.reaches.specs.declared.Cell.{Cell}
 use Rattle.reaches.specs.Cells.{Reaches, reachRuns}
 use Rattle.reaches.specs.Crossing.{crossedFrom, crossedStation, crossed}
-use Rattle.reaches.specs.Inner.{AtStation, SixMoves}
+use Rattle.reaches.specs.Inner.{SixMoves}
+use Rattle.reaches.specs.Far.{Spread, AtStation}
 use Rattle.reaches.proofs.CellLaws.{none-yet, one-more, SameLengths, lengths-of, same-room}
 use Rattle.reaches.proofs.cross.Statement.{statement}
 use Rattle.reaches.proofs.cross.Tie as tie
@@ -23,11 +26,11 @@ abbrev rule : PathRuns → List Vec2 → List Vec2 → ℕ → Cell → Cell
 rule path olds news i c = crossedFrom 0 (stationAt path i) olds news c
 
 abbrev Inv-loop : tie.InvT-loop
-Inv-loop asked xs ys gxs gys olds news left₀ right₀ marks₀ i₀ left right marks i =
+Inv-loop asked xs ys gxs gys olds news left₀ right₀ marks₀ near i₀ left right marks i =
     (i ≤ asked) × (reachRuns left right marks ≡ crossed i (pathRuns xs ys gxs gys) olds news (reachRuns left₀ right₀ marks₀))
 
 abbrev μ-loop : tie.MeasureT-loop
-μ-loop asked xs ys gxs gys olds news left₀ right₀ marks₀ i₀ left right marks i = asked - i
+μ-loop asked xs ys gxs gys olds news left₀ right₀ marks₀ near i₀ left right marks i = asked - i
 
 -- at the entry: the path and the runs
 module _ (s : tie.Start Inv-loop μ-loop) where
@@ -40,7 +43,7 @@ module _ (s : tie.Start Inv-loop μ-loop) where
 -- in the loop: the runs so far
 module _ (l : tie.At-loop Inv-loop μ-loop) where
   abbrev s : tie.Start Inv-loop μ-loop
-  s = l .before .before
+  s = l .before .before .before
 
   abbrev so-far : Reaches
   so-far = reachRuns (l .loop .left) (l .loop .right) (l .loop .marks)
@@ -48,8 +51,11 @@ module _ (l : tie.At-loop Inv-loop μ-loop) where
   lengths : SameLengths so-far (given s)
   lengths = lengths-of (rule (path s) (s .args .olds) (s .args .news)) (l .loop .i) (given s) (l .loop .inv .1)
 
+spread-requires : tie.Need-spread-requires Inv-loop μ-loop
+spread-requires c κs = let y = c .before .pre in record { old = y .old; new = y .new }
+
 loop-holds : tie.Need-loop-holds Inv-loop μ-loop
-loop-holds c = (omega arith, sym (none-yet (rule (path (c .before)) (c .before .args .olds) (c .before .args .news)) (given (c .before))))
+loop-holds c = let s = c .before .before in (omega arith, sym (none-yet (rule (path s) (s .args .olds) (s .args .news)) (given s)))
 
 station-at-requires : tie.Need-station-at-requires Inv-loop μ-loop
 station-at-requires c κs =
@@ -67,18 +73,24 @@ module _ (c : tie.In-loop Inv-loop μ-loop) where
       let y = s (c .before) .pre in
       record { move = λ p h. record { station = y .stations (c .before .loop .i) (c .loop-test .taken); from = y .old p h; to = y .new p h } }
 
-  at-station : AtStation (c .before .loop .i) here (s (c .before) .args .olds) (s (c .before) .args .news) (so-far (c .before))
+  abbrev near : ℤ
+  near = reread (c .before .before .spread .result)
+
+  exact-near : near ≡ c .before .before .spread .result
+  exact-near = search needs
+
+  at-station : AtStation (c .before .loop .i) here (s (c .before) .args .olds) (s (c .before) .args .news) near (so-far (c .before))
   at-station =
       let r = same-room (lengths (c .before)) (s (c .before) .pre .room) in
       let t = c .loop-test .taken in
-      record { moves = moves; left = omega (arith, r .left); right = omega (arith, r .right); marks = omega (arith, r .marks) }
+      record { moves = moves; spread = subst (Spread (s (c .before) .args .olds) (s (c .before) .args .news)) (sym exact-near) (c .before .before .spread .ensures); left = omega (arith, r .left); right = omega (arith, r .right); marks = omega (arith, r .marks) }
 
 cross-station-requires : tie.Need-cross-station-requires Inv-loop μ-loop
 cross-station-requires c κs =
     let m = c .before .before .before in
     let i = m .before in
     let a = s (i .before) .args in
-    subst (λ (p : Station). AtStation (i .before .loop .i) p (a .olds) (a .news) (so-far (i .before))) (sym (m .station-at .ensures)) (at-station i)
+    subst (λ (p : Station). AtStation (i .before .loop .i) p (a .olds) (a .news) (near i) (so-far (i .before))) (sym (m .station-at .ensures)) (at-station i)
 
 add-i : tie.Need-add-i Inv-loop μ-loop
 add-i c = search needs
@@ -117,6 +129,7 @@ cross-spec =
     (tie.spec
     Inv-loop
     μ-loop
+    spread-requires
     loop-holds
     station-at-requires
     cross-station-requires

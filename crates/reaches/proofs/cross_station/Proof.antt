@@ -1,34 +1,74 @@
 -- `reaches::cross_station` meets its contract: a station that no point crosses is left as it stands.
-use mathlib.Core.Path.{_≡_, sym, _∙_, ap}
+use Prim.Native.Nat.{ℕ}
+use mathlib.Core.Path.{_≡_, sym, _∙_, ap, subst}
+use mathlib.Core.Bool.{false}
+use mathlib.Core.List.{List}
+use native.Mathlib.Omega.{arith}
 use borrow.Author.Needs.{needs}
-use lib.ListN.{getD, set}
+use lib.ListN.{length, getD, set}
 use lib.IntN.{pos}
+use Rattle.exact.specs.Size.{Within}
+use Rattle.exact.proofs.Machine.{reread}
+use Rattle.plane.specs.declared.Vec2.{Vec2}
+use Rattle.path.specs.declared.Station.{Station}
+use Rattle.path.proofs.TotalLaws.{unmapped}
+use Rattle.walk.specs.Rig.{zeroVector}
 use Rattle.reaches.specs.declared.Cell.{Cell}
-use Rattle.reaches.specs.Cells.{reachRuns, cellAt, storeCell}
-use Rattle.reaches.specs.Crossing.{crossedFrom}
+use Rattle.reaches.specs.Cells.{Reaches, reachRuns, cellAt, storeCell}
+use Rattle.reaches.specs.Crossing.{crossedFrom, someCrosses, crossedStation}
+use Rattle.reaches.specs.Far.{farOff}
 use Rattle.reaches.proofs.Rereading.{reread32}
 use Rattle.reaches.proofs.CellLaws.{store-same}
 use Rattle.reaches.proofs.CrossingLaws.{none-crosses}
+use Rattle.reaches.proofs.FarLaws.{far-none}
 use Rattle.reaches.proofs.cross_station.Statement.{statement}
 use Rattle.reaches.proofs.cross_station.Tie as tie
+
+array-copy-out-first : tie.Need-array-copy-out-first
+array-copy-out-first c = search needs
+
+-- the spread, read again
+exact-near : (s : tie.Start) → reread (s .args .near) ≡ s .args .near
+exact-near s = search needs
+
+far-off-requires : tie.Need-far-off-requires
+far-off-requires c κs =
+    let s = c .before .before in
+    let m = s .pre .moves .move 0 (omega arith) in
+    record { point = record { station = m .station; point = m .from }; near = subst (Within 640000000) (sym (exact-near s)) (s .pre .spread .size) }
+
+-- none crosses: the runs are as they should be
+left-so : (i : ℕ) (s : Station) (olds news : List Vec2) (r : Reaches) → someCrosses s olds news ≡ false → r ≡ crossedStation i s olds news r
+left-so i s olds news r f = sym (ap (λ (x : Cell). storeCell i x r) (none-crosses 0 s olds news (cellAt i r) f) ∙ store-same i r)
+
+six : (s : tie.Start) → length (s .args .t3) ≡ 6
+six s = search (needs, unmapped)
+
+returns : tie.Need-returns
+returns c =
+    let s = c .before .before .before .before in
+    let a = s .args in
+    let far = ap (farOff (a .s) (getD (a .t3) 0 zeroVector)) (sym (exact-near s)) ∙ sym (c .before .far-off .ensures) ∙ c .if1 .taken in
+    left-so (a .i) (a .s) (a .t3) (a .news) (reachRuns (a .left .now) (a .right .now) (a .marks .now))
+    (far-none (a .s) (s .pre .moves .move 0 (omega arith) .station) (a .t3) (a .news) (a .near) (six s) (s .pre .spread) far)
 
 some-crosses-requires : tie.Need-some-crosses-requires
 some-crosses-requires c κs = search needs
 
-mul-t13 : tie.Need-mul-t13
-mul-t13 c = search needs
+mul-t21 : tie.Need-mul-t21
+mul-t21 c = search needs
 
-slice-copy-out-t15 : tie.Need-slice-copy-out-t15
-slice-copy-out-t15 c = search needs
+slice-copy-out-t23 : tie.Need-slice-copy-out-t23
+slice-copy-out-t23 c = search needs
 
-mul-t16 : tie.Need-mul-t16
-mul-t16 c = search needs
+mul-t24 : tie.Need-mul-t24
+mul-t24 c = search needs
 
-slice-copy-out-t18 : tie.Need-slice-copy-out-t18
-slice-copy-out-t18 c = search needs
+slice-copy-out-t26 : tie.Need-slice-copy-out-t26
+slice-copy-out-t26 c = search needs
 
-slice-read-t20 : tie.Need-slice-read-t20
-slice-read-t20 c = search needs
+slice-read-t28 : tie.Need-slice-read-t28
+slice-read-t28 c = search needs
 
 crossed-by-all-requires : tie.Need-crossed-by-all-requires
 crossed-by-all-requires c κs = search needs
@@ -60,17 +100,17 @@ same-length-3 c = search needs
 -- the cell that is read, and what the points make of it
 module _ (d : tie.After-crossed-by-all) where
   abbrev s : tie.Start
-  s = d .before .before .before .before .before .before .before
+  s = d .before .before .before .before .before .before .before .before .before .before
 
-  next : let a = s .args in d .crossed-by-all .result ≡ crossedFrom 0 (a .s) (a .olds) (a .news) (cellAt (a .i) (reachRuns (a .left .now) (a .right .now) (a .marks .now)))
+  next : let a = s .args in d .crossed-by-all .result ≡ crossedFrom 0 (a .s) (a .t3) (a .news) (cellAt (a .i) (reachRuns (a .left .now) (a .right .now) (a .marks .now)))
   next =
       let a = s .args in
       let l : reread32 (getD (a .left .now) (a .i) (pos 0)) ≡ getD (a .left .now) (a .i) (pos 0) = search needs in
       let r : reread32 (getD (a .right .now) (a .i) (pos 0)) ≡ getD (a .right .now) (a .i) (pos 0) = search needs in
-      d .crossed-by-all .ensures ∙ ap (crossedFrom 0 (a .s) (a .olds) (a .news)) (λ i. record { left = l i; right = r i; mark = getD (a .marks .now) (a .i) 0 })
+      d .crossed-by-all .ensures ∙ ap (crossedFrom 0 (a .s) (a .t3) (a .news)) (λ i. record { left = l i; right = r i; mark = getD (a .marks .now) (a .i) 0 })
 
-returns : tie.Need-returns
-returns c =
+returns-2 : tie.Need-returns-2
+returns-2 c =
     let d = c .before .before in
     let a = s d .args in
     let l : reread32 (d .crossed-by-all .result .left) ≡ d .crossed-by-all .result .left = search needs in
@@ -80,23 +120,24 @@ returns c =
     let em = ap (λ (x : Cell). x .mark) (next d) in
     λ i. record { left = set (a .left .now) (a .i) (el i); right = set (a .right .now) (a .i) (er i); marks = set (a .marks .now) (a .i) (em i) }
 
-returns-2 : tie.Need-returns-2
-returns-2 c =
-    let a = c .before .before .before .args in
-    let r = reachRuns (a .left .now) (a .right .now) (a .marks .now) in
-    let f = sym (c .before .some-crosses .ensures) ∙ c .if1 .left in
-    sym (ap (λ (x : Cell). storeCell (a .i) x r) (none-crosses 0 (a .s) (a .olds) (a .news) (cellAt (a .i) r) f) ∙ store-same (a .i) r)
+returns-3 : tie.Need-returns-3
+returns-3 c =
+    let a = c .before .before .before .before .before .before .args in
+    left-so (a .i) (a .s) (a .t3) (a .news) (reachRuns (a .left .now) (a .right .now) (a .marks .now)) (sym (c .before .some-crosses .ensures) ∙ c .if2 .left)
 
 pub cross-station-spec : {M : Type 1} → statement M
 cross-station-spec =
     tie.close
     (tie.spec
+    array-copy-out-first
+    far-off-requires
+    returns
     some-crosses-requires
-    mul-t13
-    slice-copy-out-t15
-    mul-t16
-    slice-copy-out-t18
-    slice-read-t20
+    mul-t21
+    slice-copy-out-t23
+    mul-t24
+    slice-copy-out-t26
+    slice-read-t28
     crossed-by-all-requires
     mul-l
     slice-set-from-l
@@ -106,5 +147,5 @@ cross-station-spec =
     same-length
     same-length-2
     same-length-3
-    returns
-    returns-2)
+    returns-2
+    returns-3)

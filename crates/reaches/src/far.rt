@@ -1,0 +1,59 @@
+// Which stations lie too far from the rig for any of its points to cross them: one product tells, in place of six.
+use path::Station;
+use plane::Vec2;
+ghost use mathlib.Core.Path.{_≡_};
+ghost use lib.IntN.{pos, natAbs};
+ghost use Rattle.reaches.specs.Crossing.{greater as greaterZ};
+ghost use Rattle.reaches.specs.Far.{apart as apartZ, farOff, Spread, Sized, BothSized, SixSized, Measured};
+
+fn size(z: i64) -> i64
+    requires { ⌜ Sized z ⌝ }
+    ensures { λ r. ⌜ r ≡ pos (natAbs z) ⌝ }
+{
+    if z < 0 { -z } else { z }
+}
+
+// How far apart two points lie, east and north together.
+fn apart(a: Vec2, b: Vec2) -> i64
+    requires { ⌜ BothSized a b ⌝ }
+    ensures { λ r. ⌜ r ≡ apartZ a b ⌝ }
+{
+    let ax = a.x;
+    let ay = a.y;
+    let bx = b.x;
+    let by = b.y;
+    size(bx - ax) + size(by - ay)
+}
+
+fn greater(a: i64, b: i64) -> i64
+    ensures { λ r. ⌜ r ≡ greaterZ a b ⌝ }
+{
+    if a <= b { b } else { a }
+}
+
+// As far as any point lies from the first, before the step and after it.
+pub fn spread(olds: [Vec2; 6], news: [Vec2; 6]) -> i64
+    requires { ⌜ SixSized olds news ⌝ }
+    ensures { λ r. ⌜ Spread olds news r ⌝ }
+{
+    let first = olds[0];
+    let mut most: i64 = 0;
+    let mut p: usize = 0;
+    while p < 6 {
+        let old = olds[p];
+        let new = news[p];
+        most = greater(most, greater(apart(first, old), apart(first, new)));
+        p += 1;
+    }
+    most
+}
+
+// Whether a station lies so far from a point, along its own heading, that nothing `near` the point crosses it.
+pub fn far_off(s: Station, a: Vec2, near: i64) -> bool
+    requires { ⌜ Measured s a near ⌝ }
+    ensures { λ r. ⌜ r ≡ farOff s a near ⌝ }
+{
+    let ahead = crate::crossing::ahead_of(s, a);
+    let limit = near * 1000000;
+    (limit <= ahead) | !(-limit <= ahead)
+}
