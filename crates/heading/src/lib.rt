@@ -114,13 +114,16 @@ fn radius_allowed(r: i32) -> bool
 pub fn turn_path(g: Vec2, s: u32, r: i32) -> PathTurn
     ensures { λ t. ⌜ t ≡ pathTurn g s r ⌝ }
 {
-    if !plane::has_length(g, 1000000) {
+    let heading = plane::has_length(g, 1000000);
+    let step = number::is_within(STEP_ALONE, s);
+    let radius = radius_allowed(r);
+    if !heading {
         return PathTurn::Refused(6);
     }
-    if !number::is_within(STEP_ALONE, s) {
+    if !step {
         return PathTurn::Refused(7);
     }
-    if !radius_allowed(r) {
+    if !radius {
         return PathTurn::Refused(8);
     }
     PathTurn::Turned(path_step(g, exact::wide(s), exact::wide_signed(r)))

@@ -1,10 +1,10 @@
 -- The length of a cursor's next step, and what the step asks.
 use mathlib.Core.Path.{_≡_, refl}
 use mathlib.Core.Bool.{Bool, true, false}
-use Prim.Native.Nat.{ℕ, _+_, _-_, _≤_}
+use Prim.Native.Nat.{ℕ, _+_, _-_, _≤_, _<_}
 use native.Mathlib.Omega.{arith}
-use borrow.Author.Tests.{leb-true, leb-false}
-use lib.Dec.{leb}
+use borrow.Author.Tests.{leb-true, leb-false, lt-ltb, le-ltb}
+use lib.Dec.{leb, ltb}
 use Rattle.number.specs.Read.{pick}
 use Rattle.job.specs.declared.Element.{Element}
 use Rattle.path.specs.declared.PathCursor.{PathCursor}
@@ -17,6 +17,14 @@ least-of a b = by (leb a b) refl
     by : (t : Bool) → leb a b ≡ t → (pick t a b ≤ a) × (pick t a b ≤ b) × (1 ≤ a → 1 ≤ b → 1 ≤ pick t a b)
     by true e = (omega arith, leb-true a b e, λ p q. p)
     by false e = (omega (arith, leb-false a b e), omega arith, λ p q. q)
+
+-- whether any ticks of an element are left
+module _ (behind length : ℕ) where
+  pub ticks-left : 0 < length - behind → ltb behind length ≡ true
+  ticks-left h = lt-ltb behind length (omega arith)
+
+  pub none-left : length - behind ≤ 0 → ltb behind length ≡ false
+  none-left h = le-ltb behind length (omega arith)
 
 module _ (step : ℕ) (e : Element) (c : PathCursor) (t : OnElement step e c) where
   pub step-length : (1 ≤ stepLength (e .length) (c .before) step) × (stepLength (e .length) (c .before) step ≤ step) × (c .before + stepLength (e .length) (c .before) step ≤ e .length)

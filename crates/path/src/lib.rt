@@ -63,7 +63,8 @@ pub fn next_cursor(c: PathCursor, e: Element, step: u32) -> PathCursor
     let s = least(step, left);
     let station = next_station(c.station, curve, s);
     let behind = before + s;
-    if behind < length {
+    let ahead = length - behind;
+    if 0 < ahead {
         return PathCursor {
             element: c.element,
             before: behind,

@@ -76,7 +76,7 @@ fn record_refusal(asked: usize, w: Walk) -> u8
 // A vehicle placed at station 0, every station of the path cleared; or a refusal, and nothing changed.
 pub fn place(
     v: Vehicle,
-    w: Walk,
+    before: Walk,
     asked: usize,
     xs: &[i32],
     ys: &[i32],
@@ -86,7 +86,7 @@ pub fn place(
     right: &mut [i32],
     marks: &mut [u8],
 ) -> Placing
-    ensures { λ r. ⌜ PlaceEnsures v w
+    ensures { λ r. ⌜ PlaceEnsures v before
         (callOf asked (pathRuns (now (xs .entry)) (now (ys .entry)) (now (gxs .entry)) (now (gys .entry))) (reachRuns (now (left .entry)) (now (right .entry)) (now (marks .entry))))
         (reachRuns (now (left .entry)) (now (right .entry)) (now (marks .entry)))
         r
@@ -107,7 +107,7 @@ pub fn place(
     if refusal != 0 {
         return Placing {
             answer: PlaceAnswer::Refused(refusal),
-            walk: w,
+            walk: before,
         };
     }
     let start = walk::tests::station_at(xs, ys, gxs, gys, 0);
@@ -213,7 +213,7 @@ pub fn step(
         (reachRuns (now (left .exit)) (now (right .exit)) (now (marks .exit))) ⌝ }
 {
     let own = record_refusal(asked, w);
-    let refusal = call_refusal(
+    let refused = call_refusal(
         asked,
         xs,
         ys,
@@ -224,9 +224,9 @@ pub fn step(
         marks.len(),
         own,
     );
-    if refusal != 0 {
+    if refused != 0 {
         return Advanced {
-            answer: StepAnswer::Refused(refusal),
+            answer: StepAnswer::Refused(refused),
             walk: w,
         };
     }

@@ -1,9 +1,10 @@
 -- `heading::path_step` meets its contract.
-use mathlib.Core.Path.{_≡_, sym, _∙_, ap₂, subst₂}
+use mathlib.Core.Path.{_≡_, _∙_, ap₂}
 use borrow.Author.Needs.{needs}
 use Rattle.exact.proofs.Machine.{reread}
+use lib.IntN.{pos, _*ℤ_}
+use Rattle.plane.specs.Length.{headingLength, Near}
 use Rattle.heading.specs.Turn.{headingAfter, moveOf}
-use Rattle.heading.specs.PathTurn.{Movable}
 use Rattle.heading.proofs.Steering.{after-near}
 use Rattle.heading.proofs.path_step.Statement.{statement}
 use Rattle.heading.proofs.path_step.Tie as tie
@@ -24,11 +25,11 @@ module _ (c : tie.After-heading-after) where
   turned : c .heading-after .result ≡ headingAfter (s .args .g) (s .args .s) (s .args .r)
   turned = c .heading-after .ensures ∙ ap₂ (headingAfter (s .args .g)) exact-s exact-r
 
+  near-turned : Near (c .heading-after .result) headingLength (pos 2 *ℤ headingLength)
+  near-turned = rw (turned) (after-near (s .args .g) (s .args .s) (s .args .r) (s .pre))
+
 move-along-requires : tie.Need-move-along-requires
-move-along-requires c κs =
-    let s = c .before in
-    subst₂ (Movable (s .args .g)) (sym (turned c)) (sym (exact-s c))
-    (record { old = s .pre .heading; new = after-near (s .args .g) (s .args .s) (s .args .r) (s .pre); least = s .pre .least; most = s .pre .most })
+move-along-requires c κs = record { old = search needs; new = search (needs, near-turned c); least = rw (exact-s c) (s c .pre .least); most = rw (exact-s c) (s c .pre .most) }
 
 returns : tie.Need-returns
 returns c =

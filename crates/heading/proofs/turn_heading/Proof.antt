@@ -5,10 +5,10 @@ use lib.IntN.{ℤ}
 use Rattle.exact.proofs.Polynomial.{Expr, var, lit, neg, _⊕_, _⊖_, _⊗_, ring}
 use Rattle.exact.proofs.Machine.{Bounded, reread, computed, fits, held}
 use Rattle.plane.specs.declared.Vec2.{Vec2}
-use Rattle.plane.specs.Drawn.{drawn, Drawable}
+use Rattle.plane.specs.Drawn.{Drawable}
 use Rattle.plane.proofs.Keeping.{turned-drawable}
 use Rattle.plane.specs.Length.{headingLength}
-use Rattle.heading.specs.Turn.{rotated, rotationScale}
+use Rattle.heading.specs.Turn.{rotated, rotationScale, drawnHeading}
 use Rattle.heading.proofs.Rotation.{tangent-bounds, tangent-turned}
 use Rattle.heading.proofs.turn_heading.Statement.{statement}
 use Rattle.heading.proofs.turn_heading.Tie as tie
@@ -109,7 +109,7 @@ draw-requires c κs =
     (turned-drawable (rotated (s .args .g) (s .args .p) (s .args .q)) (rotationScale (s .args .p) (s .args .q)) (s .args .g) headingLength (tangent-turned (s .args .g) (s .args .p) (s .args .q) (s .pre)))
 
 returns : tie.Need-returns
-returns c = c .draw .ensures ∙ ap₂ (λ (w : Vec2) (q : ℤ). drawn w q headingLength) (turned (c .before)) (scale (c .before))
+returns c = c .draw .ensures ∙ ap₂ drawnHeading (turned (c .before)) (scale (c .before))
 
 pub turn-heading-spec : {M : Type 1} → statement M
 turn-heading-spec =

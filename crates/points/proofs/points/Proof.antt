@@ -30,7 +30,7 @@ loop-holds c = search needs
 point-requires : tie.Need-point-requires Inv-loop μ-loop
 point-requires c κs = let s = c .before .before .before .before in
     rw (c .before .before .before .front-end .ensures, c .before .before .rear-end .ensures)
-    (record { front = front-sized (s .pre); rear = rear-sized (s .pre); body = s .pre .body; number = c .loop-test .taken })
+    (record { front = front-sized (s .pre); rear = search (front-sized (s .pre), rear-sized (s .pre)); body = s .pre .body; number = c .loop-test .taken })
 
 mul-all : tie.Need-mul-all Inv-loop μ-loop
 mul-all c = search needs

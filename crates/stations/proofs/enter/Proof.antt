@@ -27,12 +27,20 @@ points-requires c κs = search needs
 points-requires-2 : tie.Need-points-requires-2
 points-requires-2 c κs = search needs
 
+-- the points of both states are of a size that can be measured
+module _ (p : tie.After-points2) where
+  abbrev s : tie.Start
+  s = p .before .before .before .before .before
+
+  measured : Crossable (s .args .asked) (path s) (p .before .points .result) (p .points2 .result) (runs s)
+  measured =
+      subst₂ (λ (a b : List Vec2). Crossable (s .args .asked) (path s) a b (runs s)) (sym (p .before .points .ensures)) (sym (p .points2 .ensures))
+      (crossable (s .args .before) (s .args .after) (s .args .old) (s .args .new) (s .args .asked) (path s) (runs s) (s .pre))
+
 cross-requires : tie.Need-cross-requires
 cross-requires c κs =
-    let p = c .before .before .before in
-    let s = p .before .before .before .before .before in
-    subst₂ (λ (a b : List Vec2). Crossable (s .args .asked) (path s) a b (runs s)) (sym (p .before .points .ensures)) (sym (p .points2 .ensures))
-    (crossable (s .args .before) (s .args .after) (s .args .old) (s .args .new) (s .args .asked) (path s) (runs s) (s .pre))
+    let m = measured (c .before .before .before) in
+    record { lent = m .lent; room = m .room; stations = m .stations; old = λ k h. search (m .old k h, m .new k h); new = λ k h. search (m .old k h, m .new k h) }
 
 same-length : tie.Need-same-length
 same-length c = search needs

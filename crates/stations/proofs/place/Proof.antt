@@ -62,7 +62,7 @@ call-refusal-requires : tie.Need-call-refusal-requires
 call-refusal-requires c κs = search needs
 
 returns : tie.Need-returns
-returns c = let s = c .before .before .before .before in place-refused (s .args .v) (s .args .w) (call s) (runs s) _ (refusal (c .before)) (c .if1 .taken)
+returns c = let s = c .before .before .before .before in place-refused (s .args .v) (s .args .before) (call s) (runs s) _ (refusal (c .before)) (c .if1 .taken)
 
 station-at-requires : tie.Need-station-at-requires
 station-at-requires c κs = let s = c .before .before .before .before in let l = lent-call (call s) (is-passed c .lent) .0 in station-lent (path s) (s .args .asked) 0 (l .room) (l .least)
@@ -87,7 +87,7 @@ returns-2 c =
     let l = c .before .before .before .before .before in
     let t = l .before .before .before .before .before in
     let s = t .before .before .before .before .before in
-    place-done (s .args .v) (s .args .w) (call s) (runs s) _ _ (refusal (t .before .before) ∙ t .before .if1 .left) (c .start .ensures ∙ ap (λ (z : Station). drawnStart (s .args .v) (z .heading)) (t .station-at .ensures)) (l .clear .ensures)
+    place-done (s .args .v) (s .args .before) (call s) (runs s) _ _ (refusal (t .before .before) ∙ t .before .if1 .left) (c .start .ensures ∙ ap (λ (z : Station). drawnStart (s .args .v) (z .heading)) (t .station-at .ensures)) (l .clear .ensures)
 
 pub place-spec : {M : Type 1} → statement M
 place-spec =

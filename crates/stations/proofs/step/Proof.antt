@@ -6,7 +6,7 @@ use Rattle.path.specs.Laying.{PathRuns, pathRuns}
 use Rattle.reaches.specs.Cells.{Reaches, reachRuns}
 use Rattle.walk.specs.Drawn.{Call, view, stationAt}
 use Rattle.stations.specs.Placing.{callOf}
-use Rattle.stations.specs.Inner.{callRefusal, recordRefusal}
+use Rattle.stations.specs.Inner.{callRefusal, recordRefusal, Open}
 use Rattle.stations.proofs.CallLaws.{call-open}
 use Rattle.stations.proofs.StepLaws.{step-refused}
 use borrow.Author.Needs.{needs}
@@ -27,6 +27,9 @@ refusal c =
     let s = c .before .before .before in
     sym (c .call-refusal .ensures ∙ ap (λ (n : ℕ). callRefusal (call s) n) (c .before .record-refusal .ensures))
 
+is-open : (c : tie.Else1) → let s = c .before .before .before .before in Open (view (s .args .w)) (call s)
+is-open c = let s = c .before .before .before .before in call-open (view (s .args .w)) (call s) (refusal (c .before) ∙ c .if1 .left)
+
 record-refusal-requires : tie.Need-record-refusal-requires
 record-refusal-requires c κs = search needs
 
@@ -37,7 +40,7 @@ returns : tie.Need-returns
 returns c = let s = c .before .before .before .before in step-refused (s .args .w) (call s) (runs s) _ (refusal (c .before)) (c .if1 .taken)
 
 advance-and-enter-requires : tie.Need-advance-and-enter-requires
-advance-and-enter-requires c κs = let e = c .before .before .before in let s = e .before .before .before .before in call-open (view (s .args .w)) (call s) (refusal (e .before) ∙ e .if1 .left)
+advance-and-enter-requires c κs = is-open (c .before .before .before)
 
 same-length : tie.Need-same-length
 same-length c = search needs

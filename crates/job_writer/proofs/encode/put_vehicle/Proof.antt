@@ -23,7 +23,7 @@ put-number-requires c κs = let v = c .before .args .v in
 
 put-units-requires : tie.Need-put-units-requires
 put-units-requires c κs = let v = c .before .before .args .v in
-    record { most = c .before .before .pre .most; ends = first (units v) (writeWidths v) _ (then _ (writeNumber (v .count)) _ (c .put-number .ensures) (c .before .before .pre .ends) .ends) .ends }
+    record { most = search needs; ends = first (units v) (writeWidths v) _ (then _ (writeNumber (v .count)) _ (c .put-number .ensures) (c .before .before .pre .ends) .ends) .ends }
 
 put-widths-requires : tie.Need-put-widths-requires
 put-widths-requires c κs = let v = c .before .before .before .args .v in

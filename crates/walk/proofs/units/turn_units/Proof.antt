@@ -7,7 +7,7 @@ use native.Mathlib.Omega.{arith}
 use borrow.Author.Needs.{needs}
 use lib.Dec.{ltb}
 use lib.ListN.{length, take, getD, set, length-take}
-use lib.Seq.{getD-take}
+use lib.Seq.{getD-take, getD-set-same}
 use Rattle.plane.specs.declared.Vec2.{Vec2}
 use Rattle.job.specs.declared.Unit.{Unit as VehicleUnit}
 use Rattle.job.specs.Empty.{emptyUnit}
@@ -20,9 +20,10 @@ use Rattle.walk.proofs.UnitsLaws.{UnitsLeft, units-start, turn-ready, s
 use Rattle.walk.proofs.units.turn_units.Statement.{statement}
 use Rattle.walk.proofs.units.turn_units.Tie as tie
 
+-- the vector ahead is the last that was turned
 abbrev Inv-loop : tie.InvT-loop
 Inv-loop d count units out₀ from₀ to₀ lead₀ ahead₀ i₀ out from to lead ahead i =
-    (length units ≡ 4) × UnitsLeft (take count units) (turnUnits 1 none (take count units) d from₀ to₀) i out from to lead ahead
+    (length units ≡ 4) × (ahead ≡ getD out (i - 1) zeroVector) × UnitsLeft (take count units) (turnUnits 1 none (take count units) d from₀ to₀) i out from to lead ahead
 
 abbrev μ-loop : tie.MeasureT-loop
 μ-loop d count units out₀ from₀ to₀ lead₀ ahead₀ i₀ out from to lead ahead i = count - i
@@ -50,7 +51,7 @@ array-copy-out-ahead c = search needs
 loop-holds : tie.Need-loop-holds Inv-loop μ-loop
 loop-holds c =
     let s = c .before .before .before in
-    (four s, units-start (s .args .v) (s .args .t2) (s .args .old) (s .args .new) (four s) (vectors s) (s .pre))
+    (four s, refl, units-start (s .args .v) (s .args .t2) (s .args .old) (s .args .new) (four s) (vectors s) (s .pre))
 
 -- in the loop
 module _ (c : tie.In-loop Inv-loop μ-loop) where
@@ -85,7 +86,7 @@ turn-next-requires : tie.Need-turn-next-requires Inv-loop μ-loop
 turn-next-requires c κs =
     let b = c .before .before in
     let l = b .before .loop in
-    subst (λ (u : VehicleUnit). TurnReady (ltb 0 (l .i)) (l .lead) u (l .ahead) (getD (l .out) (l .i) zeroVector) (l .from) (l .to)) (read b) (turn-ready (l .inv .1) (here b) (short b))
+    subst (λ (u : VehicleUnit). TurnReady (ltb 0 (l .i)) (l .lead) u (l .ahead) (getD (l .out) (l .i) zeroVector) (l .from) (l .to)) (read b) (turn-ready (l .inv .2) (here b) (short b))
 
 -- what the unit's turn answered
 answered : (c : tie.After-turn-next Inv-loop μ-loop) → let b = c .before .before .before in let l = b .before .loop in
@@ -105,7 +106,7 @@ returns : tie.Need-returns Inv-loop μ-loop
 returns c =
     let k = c .before .before .before in
     let b = k .before .before .before in
-    stopped-here (b .before .loop .inv .1) (here b) (short b) (c .before .t .given .0 .0) (answered k ∙ c .before .t .given .1)
+    stopped-here (b .before .loop .inv .2) (here b) (short b) (c .before .t .given .0 .0) (answered k ∙ c .before .t .given .1)
 
 enum-known-t-2 : tie.Need-enum-known-t-2 Inv-loop μ-loop
 enum-known-t-2 c = search needs
@@ -127,13 +128,13 @@ module _ (c : tie.After-known-told2 Inv-loop μ-loop) where
 hitch-at-requires : tie.Need-hitch-at-requires Inv-loop μ-loop
 hitch-at-requires c κs =
     let l = b c .before .loop in
-    subst (λ (u : VehicleUnit). HitchReady u (l .from) (getD (l .out) (l .i) zeroVector)) (read (b c)) (hitch-from (l .inv .1) (here (b c)) (short (b c)))
+    subst (λ (u : VehicleUnit). HitchReady u (l .from) (getD (l .out) (l .i) zeroVector)) (read (b c)) (hitch-from (l .inv .2) (here (b c)) (short (b c)))
 
 hitch-at-requires-2 : tie.Need-hitch-at-requires-2 Inv-loop μ-loop
 hitch-at-requires-2 c κs =
     let m = c .before in
     let l = b m .before .loop in
-    subst (λ (u : VehicleUnit). HitchReady u (l .to) (x m)) (read (b m)) (hitch-to (l .inv .1) (here (b m)) (short (b m)) (x m) (turned-to m))
+    subst (λ (u : VehicleUnit). HitchReady u (l .to) (x m)) (read (b m)) (hitch-to (l .inv .2) (here (b m)) (short (b m)) (x m) (turned-to m))
 
 mul-out : tie.Need-mul-out Inv-loop μ-loop
 mul-out c = let m = c .before .before in record { fits = omega (arith, here (b m), short (b m)) }
@@ -147,6 +148,9 @@ add-i c = let m = c .before .before in record { fits = omega (arith, here (b m),
 loop-less : tie.Need-loop-less Inv-loop μ-loop
 loop-less c = let m = c .before .before in omega (arith, b m .loop-test .taken)
 
+last-turned : (out : List Vec2) (k : ℕ) (v : Vec2) → k < length out → v ≡ getD (set out k v) (k + 1 - 1) zeroVector
+last-turned out k v h = let e : k + 1 - 1 ≡ k = omega arith in sym (rw (e, getD-set-same out k v zeroVector h))
+
 loop-again : tie.Need-loop-again Inv-loop μ-loop
 loop-again c =
     let m = c .before .before in
@@ -155,13 +159,14 @@ loop-again c =
     let whole = turnUnits 1 none (us s) (s .args .t2) (s .args .old) (s .args .new) in
     let L : VehicleUnit → Vec2 → Vec2 → Type 0 = λ u p q. UnitsLeft (us s) whole (l .i + 1) (set (l .out) (l .i) (x m)) p q u (x m) in (
       four s,
+      last-turned (l .out) (l .i) (x m) (omega (arith, here (b m), short (b m), l .inv .2 .long)),
       subst₂ (L (getD (s .args .v .units) (l .i) emptyUnit)) (sym (c .before .hitch-at .ensures)) (sym (c .hitch-at2 .ensures))
           (subst (λ (u : VehicleUnit). L u (hitchAt u (l .from) (getD (l .out) (l .i) zeroVector)) (hitchAt u (l .to) (x m))) (read (b m))
-          (units-next (l .inv .1) (here (b m)) (short (b m)) (x m) (turned-to m))),
+          (units-next (l .inv .2) (here (b m)) (short (b m)) (x m) (turned-to m))),
     )
 
 returns-2 : tie.Need-returns-2 Inv-loop μ-loop
-returns-2 c = let s = c .before .before .before .before .before in units-done (c .before .loop .inv .1) (omega (arith, in-use s, c .loop-test .left))
+returns-2 c = let s = c .before .before .before .before .before in units-done (c .before .loop .inv .2) (omega (arith, in-use s, c .loop-test .left))
 
 pub turn-units-spec : {M : Type 1} → statement M
 turn-units-spec =
