@@ -58,7 +58,7 @@ pub fn put_decimal(run: &mut [u8], at: usize, n: u64) -> usize
 }
 
 // The size of a signed number; the least has one too.
-pub fn size_of(z: i64) -> u64
+fn size_of(z: i64) -> u64
     ensures { λ r. ⌜ r ≡ natAbs z ⌝ }
 {
     if z < 0 { (-1 - z) as u64 + 1 } else { z as u64 }
