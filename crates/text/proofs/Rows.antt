@@ -2,6 +2,7 @@
 use mathlib.Core.Path.{_≡_, refl}
 use mathlib.Core.List.{[], _∷_}
 use lib.IntN.{pos, negsuc}
+use Rattle.text.specs.Ascii.{ascii}
 use Rattle.text.specs.Decimal.{digits, front, decimal, signedDecimal}
 
 -- 0
@@ -28,3 +29,7 @@ four-digits = refl
 pub least : signedDecimal (negsuc 9223372036854775807) ≡ 45 ∷ 57 ∷ 50 ∷ 50 ∷ 51 ∷ 51 ∷ 55 ∷ 50 ∷ 48 ∷ 51 ∷ 54 ∷ 56 ∷ 53 ∷ 52 ∷ 55 ∷ 55 ∷ 53 ∷ 56 ∷ 48 ∷ 56 ∷ []
 unfolding front decimal signedDecimal
 least = refl
+
+pub word : ascii "at 1\n" ≡ 97 ∷ 116 ∷ 32 ∷ 49 ∷ 10 ∷ []
+unfolding ascii
+word = refl
