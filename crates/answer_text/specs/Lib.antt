@@ -1,0 +1,3 @@
+pub mod Printed
+pub mod Appending
+pub mod Inner
