@@ -10,6 +10,8 @@ use Rattle.reaches.specs.declared.Place.{Place}
 use Rattle.reaches.specs.declared.Best.{Best}
 use Rattle.reaches.specs.declared.Best.the-variants as B
 use Rattle.run.specs.declared.Finish.{Finish}
+use Rattle.swept.specs.declared.Swept.{Swept}
+use Rattle.swept.specs.declared.Swept.the-variants as S
 
 -- a number after the words that stand before it
 abbrev pub after : String → ℕ → List ℕ
@@ -45,3 +47,8 @@ refusedLine number byte = after "refused " number ++ after " at " byte ++ ascii 
 -- a refused step: refused 23 unit 2 step 17
 abbrev pub stoppedLine : ℕ → ℕ → ℕ → List ℕ
 stoppedLine number unit step = after "refused " number ++ after " unit " unit ++ after " step " step ++ ascii "\n"
+
+unfoldable pub printed : Swept → List ℕ
+printed (S.Finished f) = finishedLines f
+printed (S.Stopped number unit step) = stoppedLine number unit step
+printed (S.Refused number byte) = refusedLine number byte

@@ -3,6 +3,7 @@ use plane::Vec2;
 use reaches::Best;
 use reaches::Place;
 use run::Finish;
+use swept::Swept;
 ghost use mathlib.Core.Path.{_≡_};
 ghost use mathlib.Core.List.{_++_};
 ghost use Prim.Native.Nat.{_+_};
@@ -10,6 +11,7 @@ ghost use lib.ListN.{length};
 ghost use Rattle.text.specs.Decimal.{decimal, signedDecimal};
 ghost use Rattle.answer_text.specs.Printed.{stepsLine, placeLine, widestLine, frontLine, finishedLines, refusedLine, stoppedLine};
 ghost use Rattle.answer_text.specs.Appending.{nothing, Line};
+ghost use Rattle.answer_text.specs.Answers.{TextEnsures};
 ghost use Rattle.answer_text.specs.Inner.{Space};
 
 // The lines stand at the start of the array; zeros stand after them.
@@ -130,4 +132,15 @@ fn stopped_text(number: u8, unit: usize, step: usize) -> Text
     let b = put_number(a, b" unit ", unit as u64);
     let c = put_number(b, b" step ", step as u64);
     put_words(c, b"\n")
+}
+
+// Any answer's lines: the widest of them fit.
+pub fn text_of(s: Swept) -> Text
+    ensures { λ r. ⌜ TextEnsures s r ⌝ }
+{
+    match s {
+        Swept::Finished(f) => finished_text(f),
+        Swept::Stopped(number, unit, step) => stopped_text(number, unit, step),
+        Swept::Refused(number, byte) => refused_text(number, byte),
+    }
 }
