@@ -26,12 +26,12 @@ use Rattle.job_writer.proofs.RoundTrip.{Back, written-read, read-writte
 use Rattle.job_writer.proofs.Reach.{first-bytes}
 
 -- an accepted reading is one of the job beside it
-accepted : (x : Read Job) (r : JobRead) → r ≡ jobRead x → r .answer ≡ A.Accepted → (e : ℕ) × (x ≡ got (r .job) e)
+pub accepted : (x : Read Job) (r : JobRead) → r ≡ jobRead x → r .answer ≡ A.Accepted → (e : ℕ) × (x ≡ got (r .job) e)
 accepted (got j e) r p a = (e, (let q : j ≡ r .job = sym (ap (λ (x : JobRead). x .job) p) in ap (λ (y : Job). got y e) q))
 accepted (refused n q) r p a = absurd (let b : A.Refused n q ≡ A.Accepted = sym (ap (λ (x : JobRead). x .answer) p) ∙ a in let z : _≡_ {A = ℕ} 0 1 = cc in omega arith)
 
 -- what was read has no fault, and is written as it was
-back : (s : List ℕ) (r : JobRead) → ReadEnsures s r → r .answer ≡ A.Accepted → (e : ℕ) × Back s (r .job) e
+pub back : (s : List ℕ) (r : JobRead) → ReadEnsures s r → r .answer ≡ A.Accepted → (e : ℕ) × Back s (r .job) e
 back s r h a =
     let q = accepted (readJob s) r (h .answer) a in
     (q .0, read-written s (r .job) (q .0) (h .bytes) (q .1))

@@ -1,0 +1,5 @@
+pub mod DecimalLaws
+pub mod Writing
+pub mod SignedLaws
+pub mod Rows
+pub mod Witnesses
