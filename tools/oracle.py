@@ -4,13 +4,18 @@
   oracle.py sweep < job.bin     prints what the program sweep prints
   oracle.py sweeps < hex.txt    the same for each line of hexadecimal bytes ('-' for none)
   oracle.py worked              the paper's worked cases
+  oracle.py vectors             writes data/jobs.txt and data/calls.txt (some minutes)
 """
+import pathlib
 import sys
 
 sys.dont_write_bytecode = True  # keeps the repository free of compiled files
 
 from turning.sweep import sweep  # noqa: E402
+from turning.vectors import write_vectors  # noqa: E402
 from turning.worked import check_worked  # noqa: E402
+
+DATA = pathlib.Path(__file__).resolve().parent.parent / "data"
 
 
 def bytes_of(line):
@@ -31,6 +36,9 @@ def main(arguments):
         sweep_lines()
     elif command == "worked":
         return 0 if check_worked() else 1
+    elif command == "vectors":
+        DATA.mkdir(exist_ok=True)
+        write_vectors(DATA)
     else:
         sys.stderr.write(__doc__)
         return 2

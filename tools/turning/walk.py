@@ -76,7 +76,9 @@ def last_rear(vehicle, vectors, front):
 
 
 # No. of the table -> (base on the last unit, along the overhang, sign of the side)
-POINTS = [(False, True, -1), (False, True, 1), (False, False, -1), (False, False, 1), (True, False, -1), (True, False, 1)]
+POINTS = [(False, True, -1), (False, True, 1),
+          (False, False, -1), (False, False, 1),
+          (True, False, -1), (True, False, 1)]
 
 
 def points_of(vehicle, vectors, front):
