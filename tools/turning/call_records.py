@@ -54,7 +54,7 @@ def path_faults(job):
     jobs += [with_element(job, 1, length=length) for length in (0, 40_000_001, MOST_U32)]
     for kind in (LEFT, RIGHT):
         jobs += [with_element(job, 2, kind=kind, radius=r) for r in (0, 1, 19_999, 1_000_001, 1 << 31, MOST_U32)]
-    jobs += [with_element(job, 0, length=length) for length in (9_965_000, 9_965_001, 40_000_000)]
+    jobs += [with_element(job, 0, length=length) for length in (9_970_000, 9_970_001, 40_000_000)]
     return jobs
 
 
@@ -113,7 +113,7 @@ def lays(chance):
         runs[short] = runs[short][:-1]
         lines.append(line_lay(BASE, runs))
     lines.append(line_lay(BASE, [[], [], [], []]))
-    lines.append(line_lay(with_element(BASE, 0, length=9_965_000), four_runs(12)))
+    lines.append(line_lay(with_element(BASE, 0, length=9_970_000), four_runs(12)))
     lines.append(line_lay(BASE._replace(step=0), [[], [], [], []]))
     longer = (sample_1988(157_080), bend(LEFT, 90_000, 99_999, 4_567, UNITS))
     lines += [line_lay(job, four_runs(90)) for job in longer]
