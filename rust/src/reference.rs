@@ -2,7 +2,7 @@
 
 use crate::record::{has_length, radius_allowed, read_job, square_of, wheelbase_allowed};
 use crate::record::{Job, Unit, Vehicle, NOMINAL};
-use crate::Swept;
+pub use crate::Swept;
 use std::ops::{Add, Mul, Sub};
 
 #[derive(Clone, Copy, Debug, PartialEq, Eq)]
