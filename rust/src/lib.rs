@@ -1,0 +1,58 @@
+//! The turning check for hired trailers: the proved static library behind safe functions, and a plain
+//! Rust reference, written from the paper alone, to compare it with.
+
+pub mod jobs;
+#[cfg(feature = "product")]
+pub mod product;
+pub mod record;
+pub mod reference;
+
+use std::fmt;
+
+/// What a sweep of one job comes to.
+#[derive(Clone, Copy, Debug, PartialEq, Eq)]
+pub enum Swept {
+    /// The job is turned down, at a byte of the input.
+    Refused { number: u32, at: usize },
+    /// A step is turned down; units and steps are counted from 1.
+    Stopped { number: u32, unit: u32, step: u32 },
+    /// The last station is reached; `widest` holds station, width, left and right.
+    Finished { steps: u32, widest: Option<(u32, i64, i64, i64)>, front: (i64, i64) },
+}
+
+impl fmt::Display for Swept {
+    /// The text that the program `sweep` prints.
+    fn fmt(&self, f: &mut fmt::Formatter<'_>) -> fmt::Result {
+        match *self {
+            Swept::Refused { number, at } => writeln!(f, "refused {number} at {at}"),
+            Swept::Stopped { number, unit, step } => writeln!(f, "refused {number} unit {unit} step {step}"),
+            Swept::Finished { steps, widest, front } => {
+                writeln!(f, "steps {steps}")?;
+                match widest {
+                    Some((station, width, left, right)) => writeln!(f, "widest {station} {width} {left} {right}")?,
+                    None => writeln!(f, "widest none")?,
+                }
+                writeln!(f, "front {} {}", front.0, front.1)
+            }
+        }
+    }
+}
+
+/// The bytes of a line of hexadecimal digits, `-` for none.
+pub fn bytes_of_hex(line: &str) -> Option<Vec<u8>> {
+    if line == "-" {
+        return Some(Vec::new());
+    }
+    if !line.is_ascii() || line.len() % 2 == 1 {
+        return None;
+    }
+    (0..line.len()).step_by(2).map(|i| u8::from_str_radix(&line[i..i + 2], 16).ok()).collect()
+}
+
+/// A line of hexadecimal digits, `-` for no bytes.
+pub fn hex_of_bytes(bytes: &[u8]) -> String {
+    if bytes.is_empty() {
+        return "-".to_string();
+    }
+    bytes.iter().map(|byte| format!("{byte:02x}")).collect()
+}

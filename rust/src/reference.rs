@@ -1,0 +1,252 @@
+//! The method in plain Rust, as the paper tells it: path, units, points, stations and the widest place.
+
+use crate::record::{has_length, radius_allowed, read_job, square_of, wheelbase_allowed};
+use crate::record::{Job, Unit, Vehicle, NOMINAL};
+pub use crate::Swept;
+use std::ops::{Add, Mul, Sub};
+
+#[derive(Clone, Copy, Debug, PartialEq, Eq)]
+struct Vector {
+    x: i64,
+    y: i64,
+}
+
+impl Add for Vector {
+    type Output = Vector;
+    fn add(self, other: Vector) -> Vector {
+        Vector { x: self.x + other.x, y: self.y + other.y }
+    }
+}
+
+impl Sub for Vector {
+    type Output = Vector;
+    fn sub(self, other: Vector) -> Vector {
+        Vector { x: self.x - other.x, y: self.y - other.y }
+    }
+}
+
+impl Mul<i64> for Vector {
+    type Output = Vector;
+    fn mul(self, by: i64) -> Vector {
+        Vector { x: self.x * by, y: self.y * by }
+    }
+}
+
+impl Vector {
+    fn dot(self, other: Vector) -> i64 {
+        self.x * other.x + self.y * other.y
+    }
+
+    fn right_normal(self) -> Vector {
+        Vector { x: self.y, y: -self.x }
+    }
+
+    fn nearest(self, divisor: i64) -> Vector {
+        Vector { x: nearest(self.x, divisor), y: nearest(self.y, divisor) }
+    }
+
+    fn settle(self, length: i64) -> Vector {
+        let square = length * length;
+        (self * (3 * square - self.dot(self))).nearest(2 * square)
+    }
+}
+
+/// The nearest whole number to a quotient by a positive divisor, halves away from zero.
+fn nearest(dividend: i64, divisor: i64) -> i64 {
+    let (quotient, rest) = (dividend / divisor, dividend % divisor);
+    if 2 * rest.abs() >= divisor {
+        quotient + dividend.signum()
+    } else {
+        quotient
+    }
+}
+
+#[derive(Clone, Copy)]
+struct Station {
+    position: Vector,
+    heading: Vector,
+}
+
+/// The new heading and the move of a step of length s on radius r.
+fn path_step(g: Vector, s: i64, r: i64) -> (Vector, Vector) {
+    let turned = if r == 0 {
+        g
+    } else {
+        let normal = g.right_normal() * r.signum();
+        let wanted = g * (4 * r * r - s * s) + normal * (4 * r.abs() * s);
+        wanted.nearest(4 * r * r + s * s).settle(NOMINAL)
+    };
+    (turned, ((g + turned) * s).nearest(2 * NOMINAL))
+}
+
+fn lay(job: &Job) -> Vec<Station> {
+    let position = Vector { x: job.start.0, y: job.start.1 };
+    let heading = Vector { x: job.heading.0, y: job.heading.1 };
+    let mut last = Station { position, heading };
+    let mut path = vec![last];
+    for element in &job.elements {
+        let mut left = element.length;
+        while left > 0 {
+            let s = left.min(job.step);
+            let (heading, moved) = path_step(last.heading, s, element.radius);
+            last = Station { position: last.position + moved, heading };
+            path.push(last);
+            left -= s;
+        }
+    }
+    path
+}
+
+/// The mirror image of d in the line along 2d + f, settled.
+fn turned(d: Vector, f: Vector, wheelbase: i64) -> Vector {
+    let m = d * 2 + f;
+    let square = m.dot(m);
+    (m * (2 * m.dot(d)) - d * square).nearest(square).settle(wheelbase)
+}
+
+/// The hitch of a unit whose front point stands at `front`.
+fn hitch(unit: Unit, front: Vector, d: Vector) -> Vector {
+    front - d + (d * unit.hitch).nearest(unit.wheelbase)
+}
+
+/// The vectors after the first front point's move, or the refusal's number and unit.
+fn turn_units(vehicle: &Vehicle, d: &[Vector], from: Vector, to: Vector) -> Result<Vec<Vector>, (u32, u32)> {
+    let (mut from, mut to) = (from, to);
+    let mut new: Vec<Vector> = Vec::with_capacity(d.len());
+    for (u, unit) in vehicle.units.iter().enumerate() {
+        let f = to - from;
+        if f.dot(f) > unit.wheelbase * unit.wheelbase {
+            return Err((22, u as u32 + 1));
+        }
+        new.push(turned(d[u], f, unit.wheelbase));
+        if u > 0 {
+            let limit = unit.fold * vehicle.units[u - 1].wheelbase * unit.wheelbase;
+            if 1_000 * new[u - 1].dot(new[u]) < limit {
+                return Err((23, u as u32 + 1));
+            }
+        }
+        from = hitch(*unit, from, d[u]);
+        to = hitch(*unit, to, new[u]);
+    }
+    Ok(new)
+}
+
+fn points(vehicle: &Vehicle, d: &[Vector], front: Vector) -> [Vector; 6] {
+    let last = vehicle.units.len() - 1;
+    let mut last_front = front;
+    for (unit, vector) in vehicle.units[..last].iter().zip(d) {
+        last_front = hitch(*unit, last_front, *vector);
+    }
+    let rear = last_front - d[last];
+    let point = |base: Vector, u: usize, along: i64, side: i64| {
+        base + (d[u] * along + d[u].right_normal() * side).nearest(vehicle.units[u].wheelbase)
+    };
+    let (ahead, wide, behind) = (vehicle.overhang, vehicle.front_half_width, vehicle.rear_half_width);
+    [
+        point(front, 0, ahead, -wide),
+        point(front, 0, ahead, wide),
+        point(front, 0, 0, -wide),
+        point(front, 0, 0, wide),
+        point(rear, last, 0, -behind),
+        point(rear, last, 0, behind),
+    ]
+}
+
+/// What a station has kept of the points that crossed it.
+#[derive(Clone, Copy)]
+struct Cell {
+    left: i64,
+    right: i64,
+    mark: u8,
+}
+
+const CLEARED: Cell = Cell { left: 2_000_000_000, right: -2_000_000_000, mark: 0 };
+
+impl Cell {
+    fn enter(&mut self, reach: i64) {
+        self.left = self.left.min(reach);
+        self.right = self.right.max(reach);
+    }
+}
+
+/// Enters the moves of the six points at every station that they cross.
+fn cross(path: &[Station], cells: &mut [Cell], old: &[Vector; 6], new: &[Vector; 6]) {
+    for (station, cell) in path.iter().zip(cells) {
+        for p in 0..6 {
+            let before = old[p] - station.position;
+            let after = new[p] - station.position;
+            if before.dot(station.heading) < 0 && after.dot(station.heading) >= 0 {
+                let normal = station.heading.right_normal();
+                cell.enter(nearest(before.dot(normal), NOMINAL));
+                cell.enter(nearest(after.dot(normal), NOMINAL));
+                cell.mark |= 1 << p;
+            }
+        }
+    }
+}
+
+fn widest(cells: &[Cell]) -> Option<(u32, i64, i64, i64)> {
+    let mut best: Option<(u32, i64, i64, i64)> = None;
+    for (k, cell) in cells.iter().enumerate() {
+        let width = cell.right - cell.left;
+        let wider = best.is_none_or(|(_, most, _, _)| width > most);
+        if cell.mark & 63 == 63 && wider {
+            best = Some((k as u32, width, cell.left, cell.right));
+        }
+    }
+    best
+}
+
+/// One job from its bytes to its answer.
+pub fn sweep(bytes: &[u8]) -> Swept {
+    let job = match read_job(bytes) {
+        Ok(job) => job,
+        Err(refusal) => return Swept::Refused { number: refusal.number, at: refusal.at },
+    };
+    let path = lay(&job);
+    let vehicle = &job.vehicle;
+    let mut cells = vec![CLEARED; path.len()];
+    let mut d: Vec<Vector> =
+        vehicle.units.iter().map(|unit| (path[0].heading * unit.wheelbase).nearest(NOMINAL)).collect();
+    let mut old = points(vehicle, &d, path[0].position);
+    for k in 1..path.len() {
+        let (from, to) = (path[k - 1].position, path[k].position);
+        d = match turn_units(vehicle, &d, from, to) {
+            Ok(new) => new,
+            Err((number, unit)) => return Swept::Stopped { number, unit, step: k as u32 },
+        };
+        let new = points(vehicle, &d, to);
+        cross(&path, &mut cells, &old, &new);
+        old = new;
+    }
+    let front = path[path.len() - 1].position;
+    Swept::Finished { steps: path.len() as u32 - 1, widest: widest(&cells), front: (front.x, front.y) }
+}
+
+/// The path turn called by itself: heading x, y and move x, y, or 6, 7 or 8.
+pub fn path_turn(gx: i64, gy: i64, s: u32, r: i32) -> Result<[i64; 4], u32> {
+    if !has_length(gx, gy, NOMINAL) {
+        return Err(6);
+    }
+    if !(1..=20_000).contains(&s) {
+        return Err(7);
+    }
+    if !radius_allowed(i64::from(r)) {
+        return Err(8);
+    }
+    let (heading, moved) = path_step(Vector { x: gx, y: gy }, i64::from(s), i64::from(r));
+    Ok([heading.x, heading.y, moved.x, moved.y])
+}
+
+/// The single unit's turn called by itself: the new vector, or 27 or 22.
+pub fn unit_turn(dx: i64, dy: i64, fx: i64, fy: i64, wheelbase: u32) -> Result<[i64; 2], u32> {
+    let length = i64::from(wheelbase);
+    if !wheelbase_allowed(length) || !has_length(dx, dy, length) {
+        return Err(27);
+    }
+    if square_of(fx, fy) > square_of(length, 0) {
+        return Err(22);
+    }
+    let new = turned(Vector { x: dx, y: dy }, Vector { x: fx, y: fy }, length);
+    Ok([new.x, new.y])
+}

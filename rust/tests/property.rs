@@ -1,0 +1,163 @@
+//! Product against reference: seeded jobs of all kinds, short answer runs, and the two turns.
+//! `TURNING_JOBS` says how many jobs (20,000 where it is not set), `TURNING_SEED` which (1).
+
+use std::collections::BTreeMap;
+use turning::jobs::{heading, heaviest, some_job, Chance};
+use turning::{hex_of_bytes, product, reference, Swept};
+
+/// A value that no answer holds, to see what is written.
+const UNWRITTEN: i64 = 0x5eed_0000_0000_0001;
+
+fn setting(name: &str, usual: u64) -> u64 {
+    std::env::var(name).map_or(usual, |text| text.parse().unwrap_or_else(|_| panic!("{name} is a number")))
+}
+
+fn kind_of(swept: &Swept) -> String {
+    match swept {
+        Swept::Refused { number, .. } => format!("refused {number:2}"),
+        Swept::Stopped { number, unit, .. } => format!("stopped {number} unit {unit}"),
+        Swept::Finished { widest: None, .. } => "finished, widest none".to_string(),
+        Swept::Finished { .. } => "finished".to_string(),
+    }
+}
+
+/// The number and the eight entries that an outcome must be told by.
+fn told(swept: &Swept) -> (u32, [i64; 8]) {
+    match *swept {
+        Swept::Refused { number, at } => (number, [at as i64, 0, 0, 0, 0, 0, 0, 0]),
+        Swept::Stopped { number, unit, step } => (number, [unit.into(), step.into(), 0, 0, 0, 0, 0, 0]),
+        Swept::Finished { steps, widest, front } => {
+            let (k, width, left, right) = widest.unwrap_or((0, 0, 0, 0));
+            (0, [steps.into(), widest.is_some().into(), k.into(), width, left, right, front.0, front.1])
+        }
+    }
+}
+
+/// Every entry of the answer is as expected, and those past the eighth are as they were.
+fn check_job(job: &[u8], expected: &Swept, extra: usize) {
+    let mut answer = vec![UNWRITTEN; 8 + extra];
+    let number = product::sweep_into(job, &mut answer);
+    let (expected_number, entries) = told(expected);
+    assert_eq!((number, &answer[..8]), (expected_number, &entries[..]), "job {}", hex_of_bytes(job));
+    assert!(answer[8..].iter().all(|entry| *entry == UNWRITTEN), "job {}", hex_of_bytes(job));
+    assert_eq!(product::sweep(job), *expected, "job {}", hex_of_bytes(job));
+}
+
+#[test]
+fn jobs_are_answered_as_by_the_reference() {
+    let count = setting("TURNING_JOBS", 20_000);
+    let mut chance = Chance::new(setting("TURNING_SEED", 1));
+    let mut kinds: BTreeMap<String, u64> = BTreeMap::new();
+    for round in 0..count {
+        let job = some_job(&mut chance);
+        let expected = reference::sweep(&job);
+        check_job(&job, &expected, round as usize % 4);
+        *kinds.entry(kind_of(&expected)).or_default() += 1;
+    }
+    check_job(&heaviest(), &reference::sweep(&heaviest()), 5);
+    for (kind, times) in &kinds {
+        println!("{kind:22} {times:7}");
+    }
+    println!("{count} jobs, no difference");
+    // 10 refusals, 22 at four units, 23 at three, and finished with a widest place or none.
+    assert!(count < 20_000 || kinds.len() == 19, "some kind of outcome is missing: {kinds:?}");
+}
+
+#[test]
+fn short_answer_runs_are_refused() {
+    let mut chance = Chance::new(21);
+    for _ in 0..300 {
+        let job = some_job(&mut chance);
+        for length in 0..8 {
+            let mut answer = vec![UNWRITTEN; length];
+            assert_eq!(product::sweep_into(&job, &mut answer), 21);
+            assert_eq!(answer, vec![UNWRITTEN; length]);
+        }
+    }
+    for length in 0..4 {
+        let mut answer = vec![UNWRITTEN; length];
+        assert_eq!(product::path_turn_into(0, 1_000_000, 5_000, 20_000, &mut answer), 21);
+        assert_eq!(product::path_turn_into(0, 0, 0, 1, &mut answer), 21);
+        assert_eq!(answer, vec![UNWRITTEN; length]);
+    }
+    for length in 0..2 {
+        let mut answer = vec![UNWRITTEN; length];
+        assert_eq!(product::unit_turn_into(0, 50_000, 0, 5_000, 50_000, &mut answer), 21);
+        assert_eq!(product::unit_turn_into(0, 0, i64::MIN, 0, 0, &mut answer), 21);
+        assert_eq!(answer, vec![UNWRITTEN; length]);
+    }
+}
+
+/// Any number, mostly one that some test turns on.
+fn hostile(chance: &mut Chance) -> i64 {
+    match chance.below(5) {
+        0 => chance.pick(&[i64::MIN, i64::MIN + 1, i64::MAX, i64::MAX - 1, 3_037_000_500, 1 << 32, 1 << 62]),
+        1 => chance.word() as i64,
+        2 => chance.between(-1_100_000, 1_100_000),
+        3 => chance.pick(&[0, 1, -1, 1_000_000, -1_000_000, 1_000_001, 999_999, 1_414, 1_415, 5_000, 200_000]),
+        _ => chance.between(-300_000, 300_000),
+    }
+}
+
+/// Checks that a turn writes its entries, or none, and nothing after them.
+fn check_turn<const M: usize>(call: impl Fn(&mut [i64]) -> u32, expected: Result<[i64; M], u32>, extra: usize) {
+    let mut answer = vec![UNWRITTEN; M + extra];
+    let number = call(&mut answer);
+    match expected {
+        Ok(entries) => assert_eq!((number, &answer[..M]), (0, &entries[..])),
+        Err(refusal) => assert_eq!((number, &answer[..M]), (refusal, &[UNWRITTEN; M][..])),
+    }
+    assert!(answer[M..].iter().all(|entry| *entry == UNWRITTEN));
+}
+
+#[test]
+fn path_turns_are_answered_as_by_the_reference() {
+    let mut chance = Chance::new(678);
+    let mut numbers: BTreeMap<u32, u64> = BTreeMap::new();
+    for round in 0..200_000 {
+        let (mut gx, mut gy) = heading(&mut chance);
+        let mut s = chance.between(1, 20_000) as u32;
+        let mut r = (chance.pick(&[-1, 1]) * chance.between(20_000, 1_000_000)) as i32;
+        match chance.below(8) {
+            0 => gx = hostile(&mut chance),
+            1 => (gx, gy) = (hostile(&mut chance), hostile(&mut chance)),
+            2 => s = chance.pick(&[0, 1, 20_000, 20_001, 30_000, 1 << 31, u32::MAX]),
+            3 => r = chance.pick(&[0, 1, -1, 19_999, -20_000, 1_000_000, -1_000_001, i32::MIN, i32::MAX]),
+            4 => (gx, gy) = (gx + chance.between(-2, 2), gy + chance.between(-2, 2)),
+            _ => (),
+        }
+        let expected = reference::path_turn(gx, gy, s, r);
+        check_turn(|answer| product::path_turn_into(gx, gy, s, r, answer), expected, round % 3);
+        assert_eq!(product::path_turn(gx, gy, s, r), expected);
+        *numbers.entry(expected.err().unwrap_or(0)).or_default() += 1;
+    }
+    println!("path turns by number: {numbers:?}");
+    assert_eq!(numbers.keys().copied().collect::<Vec<_>>(), [0, 6, 7, 8]);
+}
+
+#[test]
+fn unit_turns_are_answered_as_by_the_reference() {
+    let mut chance = Chance::new(2227);
+    let mut numbers: BTreeMap<u32, u64> = BTreeMap::new();
+    for round in 0..200_000 {
+        let mut wheelbase = chance.between(5_000, 200_000) as u32;
+        let (gx, gy) = heading(&mut chance);
+        let (hx, hy) = heading(&mut chance);
+        let (length, moved) = (i64::from(wheelbase), chance.between(0, i64::from(wheelbase) + 2));
+        let (mut dx, mut dy) = (gx * length / 1_000_000, gy * length / 1_000_000);
+        let (mut fx, mut fy) = (hx * moved / 1_000_000, hy * moved / 1_000_000);
+        match chance.below(8) {
+            0 => (dx, dy) = (hostile(&mut chance), dy),
+            1 => (dx, dy) = (dx + chance.between(-1, 1), dy + chance.between(-1, 1)),
+            2 => (fx, fy) = (hostile(&mut chance), hostile(&mut chance)),
+            3 => wheelbase = chance.pick(&[0, 4_999, 5_000, 200_000, 200_001, u32::MAX, wheelbase + 1]),
+            _ => (),
+        }
+        let expected = reference::unit_turn(dx, dy, fx, fy, wheelbase);
+        check_turn(|answer| product::unit_turn_into(dx, dy, fx, fy, wheelbase, answer), expected, round % 3);
+        assert_eq!(product::unit_turn(dx, dy, fx, fy, wheelbase), expected);
+        *numbers.entry(expected.err().unwrap_or(0)).or_default() += 1;
+    }
+    println!("unit turns by number: {numbers:?}");
+    assert_eq!(numbers.keys().copied().collect::<Vec<_>>(), [0, 22, 27]);
+}

@@ -1,0 +1,49 @@
+#!/usr/bin/env python3
+"""The turning check, written from the paper alone, to compare the product with.
+
+  oracle.py sweep < job.bin     prints what the program sweep prints
+  oracle.py sweeps < hex.txt    the same for each line of hexadecimal bytes ('-' for none)
+  oracle.py worked              the paper's worked cases
+  oracle.py vectors             writes data/jobs.txt and data/calls.txt (some minutes)
+"""
+import pathlib
+import sys
+
+sys.dont_write_bytecode = True  # keeps the repository free of compiled files
+
+from turning.sweep import sweep  # noqa: E402
+from turning.vectors import write_vectors  # noqa: E402
+from turning.worked import check_worked  # noqa: E402
+
+DATA = pathlib.Path(__file__).resolve().parent.parent / "data"
+
+
+def bytes_of(line):
+    text = line.strip()
+    return b"" if text == "-" else bytes.fromhex(text)
+
+
+def sweep_lines():
+    for line in sys.stdin:
+        sys.stdout.write(sweep(bytes_of(line)))
+
+
+def main(arguments):
+    command = arguments[0] if len(arguments) == 1 else ""
+    if command == "sweep":
+        sys.stdout.write(sweep(sys.stdin.buffer.read()))
+    elif command == "sweeps":
+        sweep_lines()
+    elif command == "worked":
+        return 0 if check_worked() else 1
+    elif command == "vectors":
+        DATA.mkdir(exist_ok=True)
+        write_vectors(DATA)
+    else:
+        sys.stderr.write(__doc__)
+        return 2
+    return 0
+
+
+if __name__ == "__main__":
+    sys.exit(main(sys.argv[1:]))

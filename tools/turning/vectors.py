@@ -1,0 +1,53 @@
+"""Writes the two files of vectors and tells how often each number occurs in them."""
+
+from collections import Counter
+
+from .call_records import lays, writes
+from .call_stations import walk_calls
+from .call_turns import path_turns, unit_turns
+from .chance import Chance
+from .jobs import all_jobs
+from .sweep import sweep
+
+OPERATIONS = {"1": "place", "2": "step", "3": "widest", "4": "write", "5": "lay", "6": "path turn", "7": "unit turn"}
+
+
+def job_lines():
+    return ["%s %s" % (data.hex() or "-", sweep(data).replace("\n", "/")) for data in all_jobs()]
+
+
+def call_lines():
+    lines = walk_calls(Chance(2002)) + writes(Chance(52)) + lays(Chance(64))
+    return list(dict.fromkeys(lines + path_turns(Chance(6)) + unit_turns(Chance(7))))
+
+
+def job_kind(line):
+    text = line.split(" ", 1)[1]
+    words = text.split(" ")
+    if words[0] != "refused":
+        return "finished, widest none" if "none" in text else "finished"
+    return "refused " + " ".join(words[1:4:2] if "unit" in text else words[1:2])
+
+
+def number_order(item):
+    return [int(word) if word.isdigit() else -1 for word in item[0].split()], item[0]
+
+
+def told(kinds):
+    return ", ".join("%s: %d" % item for item in sorted(Counter(kinds).items(), key=number_order))
+
+
+def write_file(path, lines):
+    with open(path, "w", encoding="ascii", newline="\n") as out:
+        out.write("".join(line + "\n" for line in lines))
+
+
+def write_vectors(folder):
+    jobs, calls = job_lines(), call_lines()
+    write_file(folder / "jobs.txt", jobs)
+    write_file(folder / "calls.txt", calls)
+    print("jobs.txt: %d lines. %s" % (len(jobs), told(map(job_kind, jobs))))
+    print("calls.txt: %d lines, by number (0: done)" % len(calls))
+    for operation, name in OPERATIONS.items():
+        numbers = [line.split(" = ")[1].split(" ")[0] for line in calls if line.startswith(operation + " ")]
+        print("  %s %s, %d lines. %s" % (operation, name, len(numbers), told(numbers)))
