@@ -4,7 +4,7 @@
   oracle.py sweep < job.bin     prints what the program sweep prints
   oracle.py sweeps < hex.txt    the same for each line of hexadecimal bytes ('-' for none)
   oracle.py worked              the paper's worked cases
-  oracle.py vectors             writes data/jobs.txt and data/calls.txt (some minutes)
+  oracle.py vectors             writes the tables of job_trials and call_trials (some minutes)
 """
 import pathlib
 import sys
@@ -15,7 +15,7 @@ from turning.sweep import sweep  # noqa: E402
 from turning.vectors import write_vectors  # noqa: E402
 from turning.worked import check_worked  # noqa: E402
 
-DATA = pathlib.Path(__file__).resolve().parent.parent / "data"
+CRATES = pathlib.Path(__file__).resolve().parent.parent / "crates"
 
 
 def bytes_of(line):
@@ -37,8 +37,7 @@ def main(arguments):
     elif command == "worked":
         return 0 if check_worked() else 1
     elif command == "vectors":
-        DATA.mkdir(exist_ok=True)
-        write_vectors(DATA)
+        write_vectors(CRATES / "job_trials" / "data", CRATES / "call_trials" / "data")
     else:
         sys.stderr.write(__doc__)
         return 2

@@ -7,7 +7,7 @@ type PathTurn = fn(i64, i64, u32, i32) -> Result<[i64; 4], u32>;
 type UnitTurn = fn(i64, i64, i64, i64, u32) -> Result<[i64; 2], u32>;
 
 fn vectors_file(name: &str) -> String {
-    let file = format!("{}/../data/{name}", env!("CARGO_MANIFEST_DIR"));
+    let file = format!("{}/../crates/{name}", env!("CARGO_MANIFEST_DIR"));
     fs::read_to_string(file).expect("the vectors are there")
 }
 
@@ -17,7 +17,7 @@ fn job_vectors() -> Vec<(Vec<u8>, String)> {
         let (hex, expected) = line.split_once(' ').expect("a line is hex, a space and the text");
         (bytes_of_hex(hex).expect("hexadecimal bytes"), expected.replace('/', "\n"))
     };
-    vectors_file("jobs.txt").lines().map(pair).collect()
+    vectors_file("job_trials/data/jobs.txt").lines().map(pair).collect()
 }
 
 fn check(name: &str, sweep: fn(&[u8]) -> Swept) {
@@ -36,7 +36,7 @@ fn call_vectors(operation: &str) -> Vec<(Vec<i64>, Vec<i64>)> {
         let (call, expected) = line.strip_prefix(operation)?.split_once(" = ")?;
         Some((integers(call), integers(expected)))
     };
-    vectors_file("calls.txt").lines().filter_map(pair).collect()
+    vectors_file("call_trials/data/calls.txt").lines().filter_map(pair).collect()
 }
 
 /// A turn's answer as the vectors give it: the number, then the entries or zeros.

@@ -1,4 +1,4 @@
-"""Writes the two files of vectors and tells how often each number occurs in them."""
+"""Writes the tables of vectors and tells how often each number occurs in them."""
 
 from collections import Counter
 
@@ -8,12 +8,13 @@ from .call_turns import path_turns, unit_turns
 from .chance import Chance
 from .jobs import all_jobs
 from .sweep import sweep
+from .worked import rigs_to_try
 
 OPERATIONS = {"1": "place", "2": "step", "3": "widest", "4": "write", "5": "lay", "6": "path turn", "7": "unit turn"}
 
 
-def job_lines():
-    return ["%s %s" % (data.hex() or "-", sweep(data).replace("\n", "/")) for data in all_jobs()]
+def job_line(data):
+    return "%s %s" % (data.hex() or "-", sweep(data).replace("\n", "/"))
 
 
 def call_lines():
@@ -42,10 +43,11 @@ def write_file(path, lines):
         out.write("".join(line + "\n" for line in lines))
 
 
-def write_vectors(folder):
-    jobs, calls = job_lines(), call_lines()
-    write_file(folder / "jobs.txt", jobs)
-    write_file(folder / "calls.txt", calls)
+def write_vectors(job_folder, call_folder):
+    jobs, calls = [job_line(data) for data in all_jobs()], call_lines()
+    write_file(job_folder / "rigs.txt", [job_line(data) for data in rigs_to_try()])
+    write_file(job_folder / "jobs.txt", jobs)
+    write_file(call_folder / "calls.txt", calls)
     print("jobs.txt: %d lines. %s" % (len(jobs), told(map(job_kind, jobs))))
     print("calls.txt: %d lines, by number (0: done)" % len(calls))
     for operation, name in OPERATIONS.items():

@@ -63,8 +63,18 @@ def rule_cases():
     ]
 
 
+def straight_job(wheelbase, step, length):
+    return job_bytes(make_job([(wheelbase, 0, 0)], [(length, STRAIGHT, 0)], step))
+
+
 def straight(wheelbase, step, length):
-    return sweep(job_bytes(make_job([(wheelbase, 0, 0)], [(length, STRAIGHT, 0)], step)))
+    return sweep(straight_job(wheelbase, step, length))
+
+
+def rigs_to_try():
+    """The jobs of the paper's "Rigs to try": the worked straight, steps as long as the wheelbase and longer, 2,000 steps and 2,001, and document 002's samples."""
+    straights = [straight_job(5_000, 5_000, 5_000), straight_job(5_000, 5_001, 5_001), straight_job(5_000, 100, 200_000), straight_job(5_000, 100, 200_001)]
+    return [WORKED_STRAIGHT] + straights + [job_bytes(sample_1988(length)) for length in (157_080, 314_160)]
 
 
 def rig_cases():
