@@ -87,7 +87,7 @@ fn sample_vehicle() -> Vehicle {
     Vehicle {
         count: 2,
         units,
-        overhang: 14000,
+        overhang: 15000,
         front_half_width: 12500,
         rear_half_width: 12500,
     }

@@ -171,7 +171,7 @@ fn quarter_job() -> Job {
     let vehicle = Vehicle {
         count: 2,
         units,
-        overhang: 14000,
+        overhang: 15000,
         front_half_width: 12500,
         rear_half_width: 12500,
     };
@@ -238,8 +238,8 @@ fn main() {
     report(b"one unit on a straight", 13, 3, a);
     let quarter = Place {
         station: 34,
-        width: 58586,
-        left: -17214,
+        width: 59020,
+        left: -17648,
         right: 41372,
     };
     let b = walks_so(
