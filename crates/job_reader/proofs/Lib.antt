@@ -1,3 +1,4 @@
 pub mod CurveLaws
 pub mod ReadLaws
+pub mod PlaceLaws
 pub mod Rows

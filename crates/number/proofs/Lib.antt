@@ -8,5 +8,6 @@ pub mod FieldCodec
 pub mod Writing
 pub mod Widths
 pub mod Locality
+pub mod PlaceLaws
 pub mod Rows
 pub mod Witnesses

@@ -84,7 +84,7 @@ never-both : {A : Type 0} {b : Bool} → b ≡ true → b ≡ false → A
 never-both p q = absurd (let z : _≡_ {A = ℕ} 0 1 = cc in omega arith)
 
 -- the best of the first n stations is right
-abbrev Right : ℕ → ℕ → Reaches → Best → Type 0
+abbrev pub Right : ℕ → ℕ → Reaches → Best → Type 0
 Right full n r Nothing = NoneComplete full n r
 Right full n r (Found p) = IsWidest full n r p
 

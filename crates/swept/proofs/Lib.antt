@@ -1,1 +1,2 @@
 pub mod SweptLaws
+pub mod RangeLaws

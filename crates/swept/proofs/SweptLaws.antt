@@ -1,12 +1,11 @@
 -- A job that was accepted is run: its runs have room for every path, so that its run refuses nothing.
-use Prim.Native.Nat.{ℕ, _≤_}
-use mathlib.Core.Path.{_≡_, refl, sym, _∙_, ap}
+use Prim.Native.Nat.{ℕ}
+use mathlib.Core.Path.{_≡_, sym, _∙_, ap}
 use mathlib.Core.Bool.{true}
 use mathlib.Core.List.{List}
 use native.Mathlib.Omega.{arith}
 use borrow.Author.Tests.{le-leb}
-use lib.ListN.{length, replicate, length-replicate}
-use lib.IntN.{pos}
+use lib.ListN.{length}
 use Rattle.number.specs.Read.{Read, got, refused}
 use Rattle.number.proofs.FieldCodec.{and}
 use Rattle.job.specs.declared.Job.{Job}
@@ -31,15 +30,15 @@ module _ (j : Job) (sound : judge j ≡ 0) where
   abbrev n : ℕ
   n = length (stations j)
 
-  path-room : roomFor n emptyPath ≡ true
+  pub path-room : roomFor n emptyPath ≡ true
   unfolding emptyPath
-  path-room = let e = le-leb n 2001 (sound-path j sound .most) in rw (length-replicate 2001 (pos 0)) (and e (and e (and e e)))
+  path-room = let e = le-leb n 2001 (sound-path j sound .most) in and e (and e (and e e))
 
-  reaches-room : reachesLent n (lengthsOf emptyReaches) ≡ true
+  pub reaches-room : reachesLent n (lengthsOf emptyReaches) ≡ true
   unfolding emptyReaches
   reaches-room = let e = le-leb n 2001 (sound-path j sound .most) in and e (and e e)
 
-  pub run-passes : runRefusal j emptyPath emptyReaches ≡ 0
+  run-passes : runRefusal j emptyPath emptyReaches ≡ 0
   run-passes = all-passed j emptyPath emptyReaches sound path-room reaches-room
 
   -- what the run answered is what the job comes to

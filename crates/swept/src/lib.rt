@@ -5,7 +5,8 @@ use run::Finish;
 use run::Ran;
 ghost use mathlib.Core.Path.{_≡_};
 ghost use Rattle.job_writer.specs.Inner.{Accepted};
-ghost use Rattle.swept.specs.Swept.{sweptJob, sweptOf};
+ghost use Rattle.swept.specs.Swept.{sweptJob};
+ghost use Rattle.swept.specs.Ranges.{SweptEnsures};
 
 // Finished; stopped at a step, with the refusal, the unit and the step, both counted from 1; or refused, with the byte where the field starts.
 pub enum Swept {
@@ -45,7 +46,7 @@ fn sweep_accepted(j: Job) -> Swept
 
 // The job is read and run; a refusal of the reader is handed on with its byte.
 pub fn sweep_job(bytes: &[u8]) -> Swept
-    ensures { λ r. ⌜ r ≡ sweptOf (now (bytes .entry)) ⌝ }
+    ensures { λ r. ⌜ SweptEnsures (now (bytes .entry)) r ⌝ }
 {
     let read = job_reader::read_job(bytes);
     let answer = read.answer;

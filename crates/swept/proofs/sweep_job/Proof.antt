@@ -3,6 +3,7 @@ use mathlib.Core.Path.{_∙_}
 use borrow.Author.Needs.{needs}
 use denote.Ref.{now}
 use Rattle.swept.proofs.SweptLaws.{refused-tells, accepted-tells, accepted-sound}
+use Rattle.swept.proofs.RangeLaws.{told}
 use Rattle.swept.proofs.sweep_job.Statement.{statement}
 use Rattle.swept.proofs.sweep_job.Tie as tie
 
@@ -23,12 +24,14 @@ enum-known-answer c = search needs
 returns : tie.Need-returns
 returns c =
     let r = c .before .before .before in
-    c .sweep-accepted .ensures ∙ accepted-tells (now (r .before .before .args .bytes)) (r .read-job .result) (r .read-job .ensures) (c .before .enum-told .given .1)
+    let s = now (r .before .before .args .bytes) in
+    told s (r .read-job .ensures .bytes) _ (c .sweep-accepted .ensures ∙ accepted-tells s (r .read-job .result) (r .read-job .ensures) (c .before .enum-told .given .1))
 
 returns-2 : tie.Need-returns-2
 returns-2 c =
     let r = c .before .before .before in
-    refused-tells (now (r .before .before .args .bytes)) (r .read-job .result) (r .read-job .ensures) _ _ (c .before .answer .given .1)
+    let s = now (r .before .before .args .bytes) in
+    told s (r .read-job .ensures .bytes) _ (refused-tells s (r .read-job .result) (r .read-job .ensures) _ _ (c .before .answer .given .1))
 
 pub sweep-job-spec : {M : Type 1} → statement M
 sweep-job-spec =

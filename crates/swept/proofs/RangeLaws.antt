@@ -1,0 +1,167 @@
+-- What a job's run can answer: steps, stations and units in their ranges, and no refusal but 22 and 23.
+use Prim.Native.Nat.{ℕ, zero, suc, _+_, _-_, _≤_, _<_}
+use mathlib.Core.Path.{_≡_, refl, sym, subst}
+use mathlib.Core.Bool.{Bool, true, false}
+use mathlib.Core.List.{List, [], _∷_}
+use mathlib.Core.Logic.{_⊎_, inl, inr}
+use native.Mathlib.Omega.{arith}
+use lib.ListN.{length}
+use Rattle.number.specs.Read.{Bytes, Read, got, refused as refusedRead, pick}
+use Rattle.number.proofs.PlaceLaws.{Inside}
+use Rattle.plane.specs.declared.Vec2.{Vec2}
+use Rattle.plane.specs.Vector.{minus}
+use Rattle.job.specs.declared.Unit.{Unit as VehicleUnit}
+use Rattle.job.specs.declared.Job.{Job}
+use Rattle.job.specs.Faults.{judge}
+use Rattle.job_reader.specs.Record.{readJob}
+use Rattle.job_reader.proofs.PlaceLaws.{read-inside}
+use Rattle.job_writer.proofs.RoundTrip.{read-written}
+use Rattle.unit.specs.Turn.{turnedBy, tooFar}
+use Rattle.path.specs.Stations.{stations}
+use Rattle.path.specs.Laying.{PathRuns}
+use Rattle.path.proofs.JobLaws.{laid-answered}
+use Rattle.path.proofs.SoundLaws.{sound-path}
+use Rattle.walk.specs.declared.Walk.{Walk}
+use Rattle.walk.specs.Drawn.{Drawn, view, Outcome, made, refused, refusedAt, stationAt}
+use Rattle.walk.specs.Tests.{unitsInUse}
+use Rattle.walk.specs.Units.{wheelbaseOf, hitchAt, Ahead, none, behind, foldKept, Turning, turned, stopped, onto, turnUnits}
+use Rattle.walk.specs.Rig.{startVectors, Stepped, turningOf, afterTurning, drawStep}
+use Rattle.walk.proofs.StartKept.{few-units}
+use Rattle.walk.proofs.RecordTests.{sound-record}
+use Rattle.reaches.specs.declared.Best.{Best}
+use Rattle.reaches.specs.declared.Best.the-variants.{Nothing, Found}
+use Rattle.reaches.specs.Cells.{Reaches, cleared}
+use Rattle.reaches.specs.Widest.{sixPoints, widestAmong}
+use Rattle.reaches.specs.Crossing.{crossed, crossedFrom}
+use Rattle.reaches.proofs.CellLaws.{stations-lengths}
+use Rattle.reaches.proofs.WidestLaws.{Right, among-right}
+use Rattle.stations.specs.Placing.{callOf}
+use Rattle.stations.specs.Stepping.{pointsAt, ifMade}
+use Rattle.stations.proofs.CallLaws.{step-open}
+use Rattle.run.specs.Walking.{Course, walkOn, Going}
+use Rattle.run.specs.Run.{ranBy, jobPath, jobCourse, Runnable}
+use Rattle.run.proofs.WalkingLaws.{same-call, is-open, made-step}
+use Rattle.run.proofs.OverLaws.{some-asked, placed-going}
+use Rattle.run.proofs.RunLaws.{runnable}
+use Rattle.swept.specs.declared.Swept.{Swept}
+use Rattle.swept.specs.Swept.{emptyPath, emptyReaches, sweptRun, sweptJob, sweptRead, sweptOf}
+use Rattle.swept.specs.Ranges.{OnPath, AnsweredSo, SweptEnsures}
+use Rattle.swept.proofs.SweptLaws.{path-room, reaches-room}
+
+-- a unit that stops the others: 22 or 23, and its number
+abbrev StopsIn : ℕ → ℕ → Turning → Type 0
+StopsIn i k (turned ds) = Unit {0}
+StopsIn i k (stopped n u) = ((n ≡ 22) ⊎ (n ≡ 23)) × (i ≤ u) × (u < i + k)
+
+units-stop : (i : ℕ) (a : Ahead) (us : List VehicleUnit) (ds : List Vec2) (old new : Vec2) → StopsIn i (length us) (turnUnits i a us ds old new)
+unfolding turnUnits
+units-stop i a us [] old new = tt
+units-stop i a [] (d ∷ ds) old new = tt
+units-stop i a (u ∷ us) (d ∷ ds) old new =
+    let f = minus new old in
+    let d' = turnedBy d f (wheelbaseOf u) in
+    by (tooFar f (wheelbaseOf u)) (foldKept a u d') d' (turnUnits (i + 1) (behind u d') us ds (hitchAt u old d) (hitchAt u new d')) (units-stop (i + 1) (behind u d') us ds (hitchAt u old d) (hitchAt u new d'))
+  where
+    later : (x : Vec2) (t : Turning) → StopsIn (i + 1) (length us) t → StopsIn i (suc (length us)) (onto x t)
+    later x (turned es) h = tt
+    later x (stopped n v) h = (h .0, omega (arith, h .1), omega (arith, h .2))
+
+    by : (far fold : Bool) (x : Vec2) (t : Turning) → StopsIn (i + 1) (length us) t → StopsIn i (suc (length us)) (pick far (stopped 22 i) (pick fold (onto x t) (stopped 23 i)))
+    by true fold x t h = (inl refl, omega arith, omega arith)
+    by false true x t h = later x t h
+    by false false x t h = (inr refl, omega arith, omega arith)
+
+-- how a walk whose path ends at the station `last` can end
+abbrev EndsSo : ℕ → Outcome → ℕ → Type 0
+EndsSo last made station = station ≤ last
+EndsSo last (refused n) station = ⊥
+EndsSo last (refusedAt n u) station = ((n ≡ 22) ⊎ (n ≡ 23)) × (1 ≤ u) × (u ≤ 4) × (station < last)
+
+module _ (asked : ℕ) (path : PathRuns) where
+  -- the rest of a walk, after one step call
+  abbrev afterStep : ℕ → Drawn → Reaches → Stepped → Course
+  afterStep n s r t =
+      let c = callOf asked path r in
+      ifMade (t .answer)
+      (walkOn n asked path (t .state) (crossed asked path (pointsAt s c) (pointsAt (t .state) c) r))
+      (record { answer = t .answer; state = t .state; runs = r })
+
+  -- what a step call leaves to show: where it is made, that the walk from there ends so
+  abbrev Rest : ℕ → Drawn → Reaches → ℕ → Stepped → Type 0
+  Rest n s r last t =
+      (t .answer ≡ made → let c = callOf asked path r in let w = walkOn n asked path (t .state) (crossed asked path (pointsAt s c) (pointsAt (t .state) c) r) in EndsSo last (w .answer) (w .state .station))
+      → EndsSo last (afterStep n s r t .answer) (afterStep n s r t .state .station)
+
+  step-so : (n : ℕ) (s : Drawn) (r : Reaches) (last : ℕ) → s .station < last → length (unitsInUse (s .vehicle)) ≤ 4
+      → (x : Turning) → StopsIn 1 (length (unitsInUse (s .vehicle))) x → Rest n s r last (afterTurning s x)
+  step-so n s r last h few (turned ds) k later = later refl
+  step-so n s r last h few (stopped m u) k later = (k .0, k .1, omega (arith, k .2), h)
+
+  course-so : (n : ℕ) (s : Drawn) (r : Reaches) → Going s (callOf asked path r) → s .station + n < asked → EndsSo (s .station + n) (walkOn n asked path s r .answer) (walkOn n asked path s r .state .station)
+  unfolding walkOn
+  course-so zero s r g h = omega arith
+  course-so (suc n) s r g h =
+      let c = callOf asked path r in
+      let o = is-open s c g (omega arith) in
+      let t = drawStep s c in
+      let x = crossed asked path (pointsAt s c) (pointsAt (t .state) c) r in
+      let same = same-call asked path (stations-lengths (λ i. crossedFrom 0 (stationAt path i) (pointsAt s c) (pointsAt (t .state) c)) asked r) in
+      let v = sound-record asked s (g .rig) .vehicle in
+      subst (Rest n s r (s .station + suc n)) (sym (step-open s c o))
+      (step-so n s r (s .station + suc n) (omega arith) (few-units (s .vehicle) v) (turningOf s c) (units-stop 1 none (unitsInUse (s .vehicle)) (s .vectors) _ _))
+      (λ m.
+      let q = made-step s c o m in
+      let going = subst (Going (t .state)) (sym same) (record { lent = g .lent; path = g .path; rig = q .0 }) in
+      let last : t .state .station + n ≡ s .station + suc n = omega (arith, q .1) in
+      subst (λ (k : ℕ). EndsSo k (walkOn n asked path (t .state) x .answer) (walkOn n asked path (t .state) x .state .station)) last (course-so n (t .state) x going (omega arith)))
+
+-- an accepted job's walk, from its placement to its end
+module _ (j : Job) (sound : judge j ≡ 0) where
+  abbrev path : PathRuns
+  path = jobPath j emptyPath
+
+  abbrev asked : ℕ
+  asked = length (stations j)
+
+  abbrev placed : Walk
+  placed = record { vehicle = j .vehicle; station = 0; d = startVectors (j .vehicle) (stationAt path 0 .heading) }
+
+  can-run : Runnable (j .vehicle) (callOf asked path emptyReaches)
+  can-run = runnable j emptyPath asked path (laid-answered j emptyPath sound (path-room j sound)) emptyReaches (reaches-room j sound)
+
+  abbrev course : Course
+  course = jobCourse j emptyPath emptyReaches
+
+  walk-so : EndsSo (0 + (asked - 1)) (course .answer) (course .state .station)
+  walk-so =
+      let g = placed-going asked path (j .vehicle) emptyReaches can-run placed (cleared asked emptyReaches) refl refl in
+      course-so asked path (asked - 1) (view placed) (cleared asked emptyReaches) g (omega (arith, some-asked asked path (j .vehicle) emptyReaches can-run))
+
+  widest-so : (r : Reaches) → OnPath (widestAmong sixPoints asked r)
+  widest-so r = by (widestAmong sixPoints asked r) (among-right sixPoints asked r)
+    where
+      by : (b : Best) → Right sixPoints asked r b → OnPath b
+      by Nothing h = tt
+      by (Found p) h = omega (arith, h .inside, sound-path j sound .most)
+
+  pub job-so : (s : List ℕ) → AnsweredSo s (sweptJob j)
+  unfolding sweptJob
+  job-so s = by (course .answer) (course .state) (course .runs) walk-so
+    where
+      by : (o : Outcome) (t : Drawn) (r : Reaches) → EndsSo (0 + (asked - 1)) o (t .station) → AnsweredSo s (sweptRun (ranBy asked path o t r))
+      by made t r h = record { steps = omega (arith, sound-path j sound .most); widest = widest-so r }
+      by (refused n) t r h = absurd h
+      by (refusedAt n u) t r h = record { number = h .0; unit = (h .1, h .2); step = (omega arith, omega (arith, h .3, sound-path j sound .most)) }
+
+-- any bytes
+module _ (s : List ℕ) (bytes : Bytes s) where
+  answered-so : AnsweredSo s (sweptOf s)
+  unfolding sweptOf
+  answered-so = by (readJob s) refl (read-inside s)
+    where
+      by : (x : Read Job) → readJob s ≡ x → Inside s 10 x → AnsweredSo s (sweptRead x)
+      by (got j e) q i = job-so j (read-written s j e bytes q .judged) s
+      by (refusedRead n p) q i = record { number = (i .least, i .most); place = i .place }
+
+  pub told : (a : Swept) → a ≡ sweptOf s → SweptEnsures s a
+  told a e = record { answer = e; ranges = subst (AnsweredSo s) (sym e) answered-so }

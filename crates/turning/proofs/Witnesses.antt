@@ -1,0 +1,19 @@
+-- What the functions below the entries ask can be met: the longest walk, widest at its last station, in a run with no entry to spare.
+use native.Mathlib.Omega.{arith}
+use lib.IntN.{pos, negsuc}
+use Rattle.reaches.specs.declared.Best.the-variants.{Found}
+use Rattle.run.specs.declared.Finish.{Finish}
+use Rattle.turning.specs.Answers.{Room, FinishFits}
+
+abbrev longest : Finish
+longest = record {
+  steps = 2000;
+  widest = Found (record { station = 2000; width = pos 54125; left = negsuc 35840; right = pos 18284 });
+  front = record { x = pos 150000000; y = negsuc 149999999 };
+}
+
+room-met : Room 0 8 8
+room-met = record { room = omega arith }
+
+finish-met : FinishFits longest 8
+finish-met = record { room = room-met; ranges = record { steps = omega arith; widest = omega arith } }
