@@ -10,7 +10,7 @@ text-of-requires : tie.Need-text-of-requires
 text-of-requires c κs = search needs
 
 returns : tie.Need-returns
-returns c = rw (c .before .sweep-job .ensures) at (c .text-of .ensures)
+returns c = rw (c .before .sweep-job .ensures .answer) at (c .text-of .ensures)
 
 pub answer-spec : {M : Type 1} → statement M
 answer-spec = tie.close (tie.spec sweep-job-requires text-of-requires returns)
