@@ -2,6 +2,7 @@
 //! `TURNING_JOBS` says how many jobs (20,000 where it is not set), `TURNING_SEED` which (1).
 
 use std::collections::BTreeMap;
+use std::time::{Duration, Instant};
 use turning::jobs::{heading, heaviest, some_job, Chance};
 use turning::{hex_of_bytes, product, reference, Swept};
 
@@ -33,14 +34,17 @@ fn told(swept: &Swept) -> (u32, [i64; 8]) {
     }
 }
 
-/// Every entry of the answer is as expected, and those past the eighth are as they were.
-fn check_job(job: &[u8], expected: &Swept, extra: usize) {
+/// Every entry of the answer is as expected, and those past the eighth are as they were. Answers how long the product took.
+fn check_job(job: &[u8], expected: &Swept, extra: usize) -> Duration {
     let mut answer = vec![UNWRITTEN; 8 + extra];
+    let begun = Instant::now();
     let number = product::sweep_into(job, &mut answer);
+    let taken = begun.elapsed();
     let (expected_number, entries) = told(expected);
     assert_eq!((number, &answer[..8]), (expected_number, &entries[..]), "job {}", hex_of_bytes(job));
     assert!(answer[8..].iter().all(|entry| *entry == UNWRITTEN), "job {}", hex_of_bytes(job));
     assert_eq!(product::sweep(job), *expected, "job {}", hex_of_bytes(job));
+    taken
 }
 
 #[test]
@@ -48,17 +52,18 @@ fn jobs_are_answered_as_by_the_reference() {
     let count = setting("TURNING_JOBS", 20_000);
     let mut chance = Chance::new(setting("TURNING_SEED", 1));
     let mut kinds: BTreeMap<String, u64> = BTreeMap::new();
+    let mut slowest = check_job(&heaviest(), &reference::sweep(&heaviest()), 5);
     for round in 0..count {
         let job = some_job(&mut chance);
         let expected = reference::sweep(&job);
-        check_job(&job, &expected, round as usize % 4);
+        slowest = slowest.max(check_job(&job, &expected, round as usize % 4));
         *kinds.entry(kind_of(&expected)).or_default() += 1;
     }
-    check_job(&heaviest(), &reference::sweep(&heaviest()), 5);
     for (kind, times) in &kinds {
         println!("{kind:22} {times:7}");
     }
-    println!("{count} jobs, no difference");
+    println!("{count} jobs, no difference, the slowest in {:.1} ms", slowest.as_secs_f64() * 1e3);
+    assert!(slowest < Duration::from_secs(1), "no job takes a second");
     // 10 refusals, 22 at four units, 23 at three, and finished with a widest place or none.
     assert!(count < 20_000 || kinds.len() == 19, "some kind of outcome is missing: {kinds:?}");
 }
