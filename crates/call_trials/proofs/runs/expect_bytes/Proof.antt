@@ -1,0 +1,55 @@
+-- `call_trials::runs::expect_bytes` is safe and ends.
+use borrow.Author.Needs.{needs}
+use Prim.Native.Nat.{_-_, _≤_}
+use lib.ListN.{length}
+use Rattle.call_trials.proofs.runs.expect_bytes.Statement.{statement}
+use Rattle.call_trials.proofs.runs.expect_bytes.Tie as tie
+
+abbrev Inv-loop : tie.InvT-loop
+Inv-loop line run at₀ i₀ at i = i ≤ length run
+
+abbrev μ-loop : tie.MeasureT-loop
+μ-loop line run at₀ i₀ at i = length run - i
+
+expect-size-requires : tie.Need-expect-size-requires Inv-loop μ-loop
+expect-size-requires c κs = search needs
+
+loop-holds : tie.Need-loop-holds Inv-loop μ-loop
+loop-holds c = search needs
+
+shared-slice-read-size-of : tie.Need-shared-slice-read-size-of Inv-loop μ-loop
+shared-slice-read-size-of c = search needs
+
+size-of-requires : tie.Need-size-of-requires Inv-loop μ-loop
+size-of-requires c κs = search needs
+
+expect-size-requires-2 : tie.Need-expect-size-requires-2 Inv-loop μ-loop
+expect-size-requires-2 c κs = search needs
+
+add-i : tie.Need-add-i Inv-loop μ-loop
+add-i c = search needs
+
+loop-less : tie.Need-loop-less Inv-loop μ-loop
+loop-less c = search needs
+
+loop-again : tie.Need-loop-again Inv-loop μ-loop
+loop-again c = search needs
+
+returns : tie.Need-returns Inv-loop μ-loop
+returns c = search needs
+
+pub expect-bytes-spec : {M : Type 1} → statement M
+expect-bytes-spec =
+    tie.close
+    (tie.spec
+    Inv-loop
+    μ-loop
+    expect-size-requires
+    loop-holds
+    shared-slice-read-size-of
+    size-of-requires
+    expect-size-requires-2
+    add-i
+    loop-less
+    loop-again
+    returns)

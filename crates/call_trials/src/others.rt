@@ -1,0 +1,163 @@
+// Calls of the other entries: the widest place, writing and laying a job, and the two turns.
+use crate::reading::Cursor;
+use heading::PathTurn;
+use job::Job;
+use job_writer::Wrote;
+use path::Laid;
+use plane::Vec2;
+use reaches::Place;
+use reaches::WidestAnswer;
+use unit::UnitTurn;
+
+fn no_place() -> Place {
+    Place {
+        station: 0,
+        width: 0,
+        left: 0,
+        right: 0,
+    }
+}
+
+fn expect_place(line: &[u8], c: Cursor, number: u8, p: Place) -> Cursor {
+    let answer = crate::reading::expect_size(line, c, number as usize);
+    let station = crate::reading::expect_size(line, answer, p.station);
+    let width = crate::reading::expect_wide(line, station, p.width);
+    let left = crate::reading::expect_wide(line, width, p.left);
+    crate::reading::expect_wide(line, left, p.right)
+}
+
+pub fn widest(line: &[u8], c: Cursor) -> Cursor {
+    let mut left = crate::runs::empty_run();
+    let mut right = crate::runs::empty_run();
+    let mut marks = crate::runs::empty_bytes();
+    let asked = crate::reading::read_size(line, c);
+    let l = crate::runs::read_run(line, asked.next, &mut left);
+    let r = crate::runs::read_run(line, l.next, &mut right);
+    let m = crate::runs::read_bytes(line, r.next, &mut marks);
+    let i = l.count;
+    let j = r.count;
+    let k = m.count;
+    let answer = reaches::widest(asked.value, &left[..i], &right[..j], &marks[..k]);
+    let told = crate::reading::equals_sign(line, m.next);
+    match answer {
+        WidestAnswer::At(p) => expect_place(line, told, 0, p),
+        WidestAnswer::Refused(number) => expect_place(line, told, number, no_place()),
+    }
+}
+
+// A refusal's number or 0, and how many bytes were written or stations laid.
+fn expect_count(line: &[u8], c: Cursor, number: u8, count: usize) -> Cursor {
+    let answer = crate::reading::expect_size(line, c, number as usize);
+    crate::reading::expect_size(line, answer, count)
+}
+
+fn expect_wrote(line: &[u8], c: Cursor, w: Wrote) -> Cursor {
+    match w {
+        Wrote::Bytes(n) => expect_count(line, c, 0, n),
+        Wrote::Refused(number) => expect_count(line, c, number, 0),
+    }
+}
+
+fn written(line: &[u8], c: Cursor, j: Job, run: &mut [u8]) -> Cursor {
+    let wrote = job_writer::write_job(j, run);
+    let told = expect_wrote(line, c, wrote);
+    crate::runs::expect_bytes(line, told, run)
+}
+
+pub fn write(line: &[u8], c: Cursor) -> Cursor {
+    let mut bytes = crate::runs::empty_bytes();
+    let j = crate::arguments::read_job(line, c);
+    let run = crate::runs::read_bytes(line, j.next, &mut bytes);
+    let n = run.count;
+    let told = crate::reading::equals_sign(line, run.next);
+    written(line, told, j.job, &mut bytes[..n])
+}
+
+fn expect_laid(line: &[u8], c: Cursor, l: Laid) -> Cursor {
+    match l {
+        Laid::Stations(n) => expect_count(line, c, 0, n),
+        Laid::Refused(number) => expect_count(line, c, number, 0),
+    }
+}
+
+fn laid(
+    line: &[u8],
+    c: Cursor,
+    j: Job,
+    xs: &mut [i32],
+    ys: &mut [i32],
+    gxs: &mut [i32],
+    gys: &mut [i32],
+) -> Cursor {
+    let answer = path::lay(j, xs, ys, gxs, gys);
+    let told = expect_laid(line, c, answer);
+    let x = crate::runs::expect_run(line, told, xs);
+    let y = crate::runs::expect_run(line, x, ys);
+    let gx = crate::runs::expect_run(line, y, gxs);
+    crate::runs::expect_run(line, gx, gys)
+}
+
+pub fn lay(line: &[u8], c: Cursor) -> Cursor {
+    let mut xs = crate::runs::empty_run();
+    let mut ys = crate::runs::empty_run();
+    let mut gxs = crate::runs::empty_run();
+    let mut gys = crate::runs::empty_run();
+    let read = crate::arguments::read_job(line, c);
+    let x = crate::runs::read_run(line, read.next, &mut xs);
+    let y = crate::runs::read_run(line, x.next, &mut ys);
+    let gx = crate::runs::read_run(line, y.next, &mut gxs);
+    let gy = crate::runs::read_run(line, gx.next, &mut gys);
+    let i = x.count;
+    let j = y.count;
+    let k = gx.count;
+    let n = gy.count;
+    let told = crate::reading::equals_sign(line, gy.next);
+    laid(
+        line,
+        told,
+        read.job,
+        &mut xs[..i],
+        &mut ys[..j],
+        &mut gxs[..k],
+        &mut gys[..n],
+    )
+}
+
+fn nowhere() -> Vec2 {
+    Vec2 { x: 0, y: 0 }
+}
+
+fn expect_turn(line: &[u8], c: Cursor, number: u8, turned: Vec2, shift: Vec2) -> Cursor {
+    let answer = crate::reading::expect_size(line, c, number as usize);
+    let heading = crate::answers::expect_vector(line, answer, turned);
+    crate::answers::expect_vector(line, heading, shift)
+}
+
+pub fn path_turn(line: &[u8], c: Cursor) -> Cursor {
+    let g = crate::arguments::read_vector(line, c);
+    let s = crate::reading::read_natural(line, g.next);
+    let r = crate::reading::read_signed(line, s.next);
+    let answer = heading::turn_path(g.vector, s.value, r.value);
+    let told = crate::reading::equals_sign(line, r.next);
+    match answer {
+        PathTurn::Turned(a) => expect_turn(line, told, 0, a.heading, a.shift),
+        PathTurn::Refused(number) => expect_turn(line, told, number, nowhere(), nowhere()),
+    }
+}
+
+fn expect_unit_turn(line: &[u8], c: Cursor, number: u8, d: Vec2) -> Cursor {
+    let answer = crate::reading::expect_size(line, c, number as usize);
+    crate::answers::expect_vector(line, answer, d)
+}
+
+pub fn unit_turn(line: &[u8], c: Cursor) -> Cursor {
+    let d = crate::arguments::read_vector(line, c);
+    let f = crate::arguments::read_vector(line, d.next);
+    let wheelbase = crate::reading::read_natural(line, f.next);
+    let answer = unit::turn_unit(d.vector, f.vector, wheelbase.value);
+    let told = crate::reading::equals_sign(line, wheelbase.next);
+    match answer {
+        UnitTurn::Turned(v) => expect_unit_turn(line, told, 0, v),
+        UnitTurn::Refused(number) => expect_unit_turn(line, told, number, nowhere()),
+    }
+}
