@@ -9,3 +9,4 @@ pub mod NearestLaws
 pub mod Halves
 pub mod Division
 pub mod Witnesses
+pub mod Equations

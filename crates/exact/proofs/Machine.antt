@@ -3,11 +3,12 @@
 use mathlib.Core.Path.{_≡_, refl, sym, _∙_, ap, ap₂, subst}
 use mathlib.Core.List.{List, [], _∷_}
 use mathlib.Core.Bool.{Bool, _&&_}
-use Prim.Native.Nat.{ℕ, zero, suc, _+_, _*_, _^_, _≤_}
+use Prim.Native.Nat.{ℕ, zero, suc, _+_, _*_, _^_, _≤_, _<_}
 use native.Mathlib.Nat as NatL
 use lib.Dec.{T, ltb, leb, leb→le}
 use lib.IntN.{ℤ, pos, negsuc, negℤ, natAbs, _+ℤ_, _-ℤ_, _*ℤ_}
-use mir.Syntax.{w64}
+use lib.Signed.{mag, natAbs-le}
+use mir.Syntax.{w32, w64}
 use mir.Val.{SFits, ofZ, toZ}
 use mir.Facts.{toZ-ofZ}
 use Rattle.exact.specs.Size.{Within}
@@ -17,6 +18,16 @@ use Rattle.exact.proofs.Sizes.{within-add, within-sub, within-mul, with
 -- z, read again from its bits
 abbrev pub reread : ℤ → ℤ
 reread z = toZ w64 (ofZ w64 z)
+
+pub reread-result : {z w : ℤ} → mag z < 2 ^ 63 → z ≡ w → reread z ≡ w
+reread-result ok e = toZ-ofZ {w = w64} (record { sfits = ok }) ∙ e
+
+-- the same of 32 bits, and the size of such a number
+abbrev pub reread32 : ℤ → ℤ
+reread32 z = toZ w32 (ofZ w32 z)
+
+pub within32 : {z : ℤ} → SFits w32 z → Within 2147483648 z
+within32 {z} f = record { size = natAbs-le z (f .sfits) }
 
 -- what the last operation of e leaves
 abbrev pub computed : Expr → List ℤ → ℤ

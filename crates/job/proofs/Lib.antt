@@ -3,3 +3,4 @@ pub mod FieldLaws
 pub mod StepLaws
 pub mod Wide
 pub mod Witnesses
+pub mod Arrays

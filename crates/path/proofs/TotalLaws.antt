@@ -32,9 +32,6 @@ module _ (step total : ℕ) (es : List Element) (n i : ℕ) where
   total-end h = rw (taken-end es n i h)
 
 -- as many as there are steps
-pub unmapped : {A B : Type 0} (f : A → B) (xs : List A) (n : ℕ) → length (map f xs) ≡ n → length xs ≡ n
-unmapped f xs n e = sym (length-map xs f) ∙ e
-
 pub total-count : (step total : ℕ) (es : List Element) → stepTotal step total es ≡ total + length (stepsOn step es)
 unfolding stepTotal stepsOn
 total-count step total [] = omega arith

@@ -1,4 +1,3 @@
-pub mod Results
 pub mod Filling
 pub mod EndLaws
 pub mod PointLaws

@@ -1,4 +1,3 @@
-pub mod Rereading
 pub mod Bits
 pub mod CellLaws
 pub mod LeastGreatest

@@ -5,7 +5,7 @@ use run::Finish;
 use run::Ran;
 ghost use mathlib.Core.Path.{_≡_};
 ghost use Rattle.job_writer.specs.Inner.{Accepted};
-ghost use Rattle.swept.specs.Swept.{sweptJob};
+ghost use Rattle.swept.specs.Swept.{sweptJob, FirstBytes};
 ghost use Rattle.swept.specs.Ranges.{SweptEnsures};
 
 // Finished; stopped at a step, with the refusal, the unit and the step, both counted from 1; or refused, with the byte where the field starts.
@@ -55,3 +55,8 @@ pub fn sweep_job(bytes: &[u8]) -> Swept
         ReadAnswer::Refused(number, place) => Swept::Refused(number, place),
     }
 }
+
+// Claim: of a longer input the first 1,024 bytes decide the answer.
+pub fn first_bytes()
+    ensures { λ _. ⌜ FirstBytes ⌝ }
+{}

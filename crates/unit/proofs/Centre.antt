@@ -13,7 +13,7 @@ use Rattle.plane.specs.declared.Vec2.{Vec2}
 use Rattle.plane.specs.Vector.{dot, normSq, plus, times, rightNormal}
 use Rattle.unit.specs.Turn.{mirrorLine, image}
 use Rattle.unit.specs.Construction.{fromOldAxle, fromNewFront, Centre, TurnedAbout, InLine, Construction1988}
-use Rattle.unit.proofs.Equations.{Zero, _⊹_, multiple, equal}
+use Rattle.exact.proofs.Equations.{Zero, _⊹_, multiple, equal}
 use Rattle.unit.proofs.MirrorImage.{image-length}
 
 module _ (d f p : Vec2) (z : ℤ) (c : Centre d f p z) where

@@ -1,4 +1,3 @@
-pub mod Equations
 pub mod MirrorImage
 pub mod Centre
 pub mod Turning

@@ -9,7 +9,7 @@ use Rattle.job.specs.Faults.{judge}
 use Rattle.job.proofs.FaultLaws.{first-of}
 use Rattle.job_writer.specs.Write.{writeJob}
 use Rattle.job_writer.proofs.AnswerLaws.{refuses, writes, encoded-count, encoded-bytes}
-use Rattle.job_writer.proofs.Arrays.{unmapped}
+use Rattle.job.proofs.Arrays.{unmapped}
 use Rattle.job_writer.proofs.LengthLaws.{record-length}
 use borrow.Author.Needs.{needs}
 use Rattle.job_writer.proofs.write_job.Statement.{statement}

@@ -13,7 +13,7 @@ use Rattle.path.specs.declared.Station.{Station}
 use Rattle.path.specs.declared.Laid.the-variants as L
 use Rattle.path.specs.Stations.{startStation, stations}
 use Rattle.path.specs.Laying.{PathRuns, pathRuns, roomFor, written, stationsOver, Layable, LayEnsures}
-use Rattle.path.proofs.TotalLaws.{unmapped}
+use Rattle.job.proofs.Arrays.{unmapped}
 use Rattle.path.proofs.JobLaws.{accepted, start-sound, stations-count, fault-answered, no-room-answered, laid-answered}
 use Rattle.path.proofs.lay.Statement.{statement}
 use Rattle.path.proofs.lay.Tie as tie

@@ -1,6 +1,6 @@
 -- `points::along_of` meets its contract.
 use borrow.Author.Needs.{needs}
-use Rattle.points.proofs.Results.{reread-result}
+use Rattle.exact.proofs.Machine.{reread-result}
 use Rattle.points.proofs.along_of.Statement.{statement}
 use Rattle.points.proofs.along_of.Tie as tie
 

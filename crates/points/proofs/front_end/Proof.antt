@@ -3,10 +3,10 @@ use mathlib.Core.Path.{sym, _∙_, ap}
 use borrow.Author.Needs.{needs}
 use lib.ListN.{getD}
 use lib.Seq.{getD-take}
+use Rattle.exact.proofs.Machine.{reread-result}
 use Rattle.job.specs.Empty.{emptyUnit}
 use Rattle.walk.specs.Units.{wheelbaseOf}
 use Rattle.walk.specs.Rig.{zeroVector}
-use Rattle.points.proofs.Results.{reread-result}
 use Rattle.points.proofs.front_end.Statement.{statement}
 use Rattle.points.proofs.front_end.Tie as tie
 

@@ -1,6 +1,6 @@
 -- `points::half_width` meets its contract.
 use borrow.Author.Needs.{needs}
-use Rattle.points.proofs.Results.{reread-result}
+use Rattle.exact.proofs.Machine.{reread-result}
 use Rattle.points.proofs.half_width.Statement.{statement}
 use Rattle.points.proofs.half_width.Tie as tie
 

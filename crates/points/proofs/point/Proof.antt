@@ -4,13 +4,12 @@ use borrow.Author.Needs.{needs}
 use lib.Dec.{lit≤}
 use lib.IntN.{ℤ}
 use Rattle.exact.specs.Size.{Within}
-use Rattle.exact.proofs.Machine.{reread}
+use Rattle.exact.proofs.Machine.{reread, reread-result}
 use Rattle.plane.specs.declared.Vec2.{Vec2}
 use Rattle.plane.specs.Vector.{plus}
 use Rattle.points.specs.declared.End.{End}
 use Rattle.points.specs.Points.{rowAt, pointAt, endOf, alongOf, halfWidth, sideOf, offsetFrom}
 use Rattle.points.specs.Requires.{OffsetSized}
-use Rattle.points.proofs.Results.{reread-result}
 use Rattle.points.proofs.EndLaws.{place-moderate}
 use Rattle.points.proofs.PointLaws.{width-sized, row-asked, offset-sized}
 use Rattle.points.proofs.point.Statement.{statement}

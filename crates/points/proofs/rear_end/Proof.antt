@@ -5,11 +5,11 @@ use mathlib.Core.Path.{_≡_, refl, sym, _∙_, ap}
 use native.Mathlib.Omega.{arith}
 use borrow.Author.Needs.{needs}
 use lib.ListN.{getD, take, drop}
+use Rattle.exact.proofs.Machine.{reread-result}
 use Rattle.walk.specs.Rig.{zeroVector}
 use Rattle.walk.proofs.DrawLaws.{vector-sized, sized-moderate}
 use Rattle.points.specs.Ends.{rearEnd}
 use Rattle.points.specs.Requires.{PlaceSized}
-use Rattle.points.proofs.Results.{reread-result}
 use Rattle.points.proofs.EndLaws.{place-more, place-moderate, hitch-placed, unit-there, vector-there, rear-behind, rear-last}
 use Rattle.points.proofs.rear_end.Statement.{statement}
 use Rattle.points.proofs.rear_end.Tie as tie

@@ -8,16 +8,15 @@ use borrow.Author.Needs.{needs}
 use lib.ListN.{length, getD, set}
 use lib.IntN.{pos}
 use Rattle.exact.specs.Size.{Within}
-use Rattle.exact.proofs.Machine.{reread}
+use Rattle.exact.proofs.Machine.{reread, reread32}
 use Rattle.plane.specs.declared.Vec2.{Vec2}
 use Rattle.path.specs.declared.Station.{Station}
-use Rattle.path.proofs.TotalLaws.{unmapped}
+use Rattle.job.proofs.Arrays.{unmapped}
 use Rattle.walk.specs.Rig.{zeroVector}
 use Rattle.reaches.specs.declared.Cell.{Cell}
 use Rattle.reaches.specs.Cells.{Reaches, reachRuns, cellAt, storeCell}
 use Rattle.reaches.specs.Crossing.{crossedFrom, someCrosses, crossedStation}
 use Rattle.reaches.specs.Far.{farOff}
-use Rattle.reaches.proofs.Rereading.{reread32}
 use Rattle.reaches.proofs.CellLaws.{store-same}
 use Rattle.reaches.proofs.CrossingLaws.{none-crosses}
 use Rattle.reaches.proofs.FarLaws.{far-none}

@@ -7,8 +7,7 @@ use mir.Syntax.{w32}
 use mir.Val.{SFits}
 use Rattle.exact.specs.Size.{Within}
 use Rattle.exact.proofs.Polynomial.{var, _⊖_}
-use Rattle.exact.proofs.Machine.{Bounded, none, _∷ᵇ_, fits, held}
-use Rattle.reaches.proofs.Rereading.{reread32, within32}
+use Rattle.exact.proofs.Machine.{Bounded, none, _∷ᵇ_, fits, held, reread32, within32}
 use Rattle.reaches.proofs.place_of.Statement.{statement}
 use Rattle.reaches.proofs.place_of.Tie as tie
 

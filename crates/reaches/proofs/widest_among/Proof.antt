@@ -5,10 +5,10 @@ use native.Mathlib.Omega.{arith}
 use borrow.Author.Needs.{needs}
 use lib.IntN.{pos}
 use lib.ListN.{getD}
+use Rattle.exact.proofs.Machine.{reread32}
 use Rattle.reaches.specs.declared.Cell.{Cell}
 use Rattle.reaches.specs.Cells.{reachRuns}
 use Rattle.reaches.specs.Widest.{considered, widestAmong}
-use Rattle.reaches.proofs.Rereading.{reread32}
 use Rattle.reaches.proofs.WidestLaws.{none-considered, one-considered}
 use Rattle.reaches.proofs.widest_among.Statement.{statement}
 use Rattle.reaches.proofs.widest_among.Tie as tie

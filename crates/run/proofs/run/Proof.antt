@@ -13,7 +13,7 @@ use Rattle.path.specs.declared.Laid.{Laid}
 use Rattle.path.specs.declared.Laid.the-variants as L
 use Rattle.path.specs.Stations.{stations}
 use Rattle.path.specs.Laying.{PathRuns, pathRuns, LayEnsures}
-use Rattle.path.proofs.TotalLaws.{unmapped}
+use Rattle.job.proofs.Arrays.{unmapped}
 use Rattle.path.proofs.JobLaws.{accepted, stations-count, stations-answered}
 use Rattle.walk.specs.Tests.{reachesLent}
 use Rattle.reaches.specs.Cells.{Reaches, reachRuns, lengthsOf}

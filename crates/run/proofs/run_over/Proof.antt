@@ -5,7 +5,7 @@ use borrow.Author.Needs.{needs}
 use denote.Ref.{now}
 use Rattle.path.specs.declared.Station.{Station}
 use Rattle.path.specs.Laying.{PathRuns, pathRuns}
-use Rattle.path.proofs.TotalLaws.{unmapped}
+use Rattle.job.proofs.Arrays.{unmapped}
 use Rattle.walk.specs.Drawn.{view, stationAt}
 use Rattle.walk.specs.Rig.{drawnStart}
 use Rattle.walk.specs.Moving.{StartReady}

@@ -10,7 +10,7 @@ use Rattle.walk.specs.Drawn.{Call, view, stationAt}
 use Rattle.stations.specs.Placing.{callOf}
 use Rattle.plane.specs.declared.Vec2.{Vec2}
 use Rattle.path.specs.declared.Station.{Station}
-use Rattle.path.proofs.TotalLaws.{unmapped}
+use Rattle.job.proofs.Arrays.{unmapped}
 use Rattle.walk.specs.Rig.{drawnStart}
 use Rattle.walk.specs.Moving.{StartReady}
 use Rattle.walk.proofs.PathTests.{path-station, station-lent}

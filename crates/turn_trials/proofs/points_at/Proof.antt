@@ -6,7 +6,7 @@ use lib.ListN.{length}
 use denote.Ref.{now}
 use Rattle.path.specs.Laying.{PathRuns, pathRuns}
 use Rattle.path.specs.declared.Station.{Station}
-use Rattle.path.proofs.TotalLaws.{unmapped}
+use Rattle.job.proofs.Arrays.{unmapped}
 use Rattle.walk.specs.Drawn.{view}
 use Rattle.walk.specs.Tests.{pathSound, recordSound}
 use Rattle.walk.proofs.PathTests.{station-lent}

@@ -1,5 +1,5 @@
 -- `job_writer::encode::encode_job` meets its contract. Assumes nothing.
-use Rattle.job_writer.proofs.Arrays.{unmapped}
+use Rattle.job.proofs.Arrays.{unmapped}
 use Prim.Native.Nat.{_+_, _≤_}
 use native.Mathlib.Omega.{arith}
 use borrow.Author.Needs.{needs}

@@ -1,8 +1,8 @@
 -- `reaches::crossing::crossed_cell` meets its contract.
 use mathlib.Core.Path.{_≡_, sym, _∙_, ap₂}
 use borrow.Author.Needs.{needs}
+use Rattle.exact.proofs.Machine.{reread32}
 use Rattle.reaches.specs.Crossing.{reachOf, smaller, greater}
-use Rattle.reaches.proofs.Rereading.{reread32}
 use Rattle.reaches.proofs.CrossingLaws.{crossed, not-crossed}
 use Rattle.reaches.proofs.crossing.crossed_cell.Statement.{statement}
 use Rattle.reaches.proofs.crossing.crossed_cell.Tie as tie

@@ -1,7 +1,7 @@
 -- `reaches::crossing::greater` meets its contract.
 use mathlib.Core.Path.{_≡_}
 use borrow.Author.Needs.{needs}
-use Rattle.reaches.proofs.Rereading.{reread32}
+use Rattle.exact.proofs.Machine.{reread32}
 use Rattle.reaches.proofs.crossing.greater.Statement.{statement}
 use Rattle.reaches.proofs.crossing.greater.Tie as tie
 

@@ -1,7 +1,7 @@
 -- `reaches::crossing::smaller` meets its contract.
 use mathlib.Core.Path.{_≡_}
 use borrow.Author.Needs.{needs}
-use Rattle.reaches.proofs.Rereading.{reread32}
+use Rattle.exact.proofs.Machine.{reread32}
 use Rattle.reaches.proofs.crossing.smaller.Statement.{statement}
 use Rattle.reaches.proofs.crossing.smaller.Tie as tie
 

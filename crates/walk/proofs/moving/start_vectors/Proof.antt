@@ -13,7 +13,7 @@ use Rattle.exact.proofs.Machine.{reread}
 use Rattle.plane.specs.declared.Vec2.{Vec2}
 use Rattle.job.specs.Empty.{emptyUnit}
 use Rattle.unit.specs.Turn.{placedBy, Placeable}
-use Rattle.path.proofs.TotalLaws.{unmapped}
+use Rattle.job.proofs.Arrays.{unmapped}
 use Rattle.walk.specs.Units.{wheelbaseOf}
 use Rattle.walk.specs.Rig.{zeroVector, startVectors}
 use Rattle.walk.proofs.MovingLaws.{placedFrom, placed-next, placed-end}

@@ -12,7 +12,7 @@ use Rattle.number.proofs.ManyLaws.{next-of, none-of}
 use Rattle.plane.specs.Length.{hasLength, Nominal}
 use Rattle.job.specs.Empty.{emptyUnit}
 use Rattle.job.specs.declared.Unit.{Unit as VehicleUnit}
-use Rattle.path.proofs.TotalLaws.{unmapped}
+use Rattle.job.proofs.Arrays.{unmapped}
 use Rattle.unit.proofs.Turning.{wheelbase-nominal}
 use Rattle.exact.proofs.Machine.{reread}
 use Rattle.walk.specs.Tests.{vectorSound, unitsInUse}

@@ -12,7 +12,7 @@ use Rattle.plane.specs.declared.Vec2.{Vec2}
 use Rattle.job.specs.declared.Unit.{Unit as VehicleUnit}
 use Rattle.job.specs.Empty.{emptyUnit}
 use Rattle.unit.specs.declared.UnitTurn.the-variants as U
-use Rattle.path.proofs.TotalLaws.{unmapped}
+use Rattle.job.proofs.Arrays.{unmapped}
 use Rattle.walk.specs.Units.{hitchAt, none, Turning, turned, turnUnits}
 use Rattle.walk.specs.Rig.{zeroVector}
 use Rattle.walk.specs.Inner.{nextTurn, aheadIf, TurnReady, HitchReady}

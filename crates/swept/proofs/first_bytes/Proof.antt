@@ -1,0 +1,17 @@
+-- `swept::first_bytes` meets its contract.
+use mathlib.Core.Path.{_≡_, sym, ap}
+use native.Mathlib.Omega.{arith}
+use Rattle.job_writer.proofs.Reach.{first-bytes}
+use Rattle.swept.specs.Swept.{sweptRead, sweptOf, FirstBytes}
+use Rattle.swept.proofs.first_bytes.Statement.{statement}
+use Rattle.swept.proofs.first_bytes.Tie as tie
+
+decided : FirstBytes
+unfolding sweptOf
+decided s = ap sweptRead (sym (first-bytes 1024 s (omega arith)))
+
+returns : tie.Need-returns
+returns c = decided
+
+pub first-bytes-spec : {M : Type 1} → statement M
+first-bytes-spec = tie.close (tie.spec returns)
