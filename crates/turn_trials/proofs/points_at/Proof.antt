@@ -24,9 +24,6 @@ path s = pathRuns (now (s .args .xs)) (now (s .args .ys)) (now (s .args .gxs)) (
 places : (s : tie.Start) → length (s .args .w .vehicle .units) ≡ 4
 places s = search (needs, unmapped)
 
-vectors : (s : tie.Start) → length (s .args .w .d) ≡ 4
-vectors s = search (needs, unmapped)
-
 is-lent : (c : tie.Then1) → let s = c .before .before in LentPath (s .args .asked) (path s)
 is-lent c = let s = c .before .before in lent-path (s .args .asked) (path s) (sym (c .before .path-lent .ensures) ∙ c .if1 .taken)
 
@@ -61,7 +58,7 @@ points-requires c κs =
     let t = c .before .before in
     let w = s t .args .w in
     subst (λ (z : Station). RigAt (w .vehicle) (w .d) (z .position)) (sym (c .before .station-at .ensures))
-    (rig-at w (path (s t)) (s t .args .asked) (w .station) (places (s t)) (sound-keeping (s t .args .asked) (view w) (places (s t)) (vectors (s t)) (record-passed t)) (path-passed t) (reached t))
+    (rig-at w (path (s t)) (s t .args .asked) (w .station) (places (s t)) (sound-keeping (s t .args .asked) (view w) (record-passed t)) (path-passed t) (reached t))
 
 returns : tie.Need-returns
 returns c = search needs
