@@ -1,4 +1,4 @@
--- `seven::field_of` meets its contract. Assumes nothing.
+-- `number::field_of` meets its contract. Assumes nothing.
 use native.Mathlib.Omega.{arith}
 use mathlib.Core.Path.{_≡_, _∙_}
 use lib.IntN.{pos}

@@ -1,4 +1,4 @@
--- `seven::signed_of` meets its contract. Assumes nothing.
+-- `number::signed_of` meets its contract. Assumes nothing.
 use borrow.Author.Needs.{needs}
 use borrow.Author.Tests.{eq-eqb, ne-eqb}
 use native.Mathlib.Omega.{arith}
