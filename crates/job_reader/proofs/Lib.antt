@@ -1,4 +1,5 @@
 pub mod CurveLaws
 pub mod ReadLaws
+pub mod PartLaws
 pub mod PlaceLaws
 pub mod Rows

@@ -3,7 +3,7 @@ use Prim.Native.Nat.{ℕ}
 use mathlib.Core.Path.{_≡_}
 use mathlib.Core.List.{List}
 use Rattle.number.specs.Read.{Bytes, Read, got, refused}
-use Rattle.job.specs.Empty.{emptyJob}
+use Rattle.job.specs.Empty.{emptyUnit, emptyUnits, emptyVehicle, emptyStart, emptyElement, emptyElements, emptyJob}
 use Rattle.job.specs.declared.Unit.{Unit as VehicleUnit}
 use Rattle.job.specs.declared.Vehicle.{Vehicle}
 use Rattle.job.specs.declared.Start.{Start}
@@ -31,26 +31,35 @@ beside a (P.Refused n p) = refused n p
 abbrev pub asPassed : Passed → Read Passed
 asPassed a = beside a a
 
-abbrev pub asUnit : UnitRead → Read VehicleUnit
-asUnit r = beside (r .unit) (r .answer)
+-- what a reader of a part answers: where reading goes on with what was read, or the refusal with the empty part
+abbrev pub passedOf : {A : Type 0} → Read A → Passed
+passedOf (got a e) = P.At (record { at = e })
+passedOf (refused n p) = P.Refused n p
 
-abbrev pub asUnits : UnitsRead → Read (List VehicleUnit)
-asUnits r = beside (r .units) (r .answer)
+abbrev pub partOf : {A : Type 0} → A → Read A → A
+partOf empty (got a e) = a
+partOf empty (refused n p) = empty
 
-abbrev pub asVehicle : VehicleRead → Read Vehicle
-asVehicle r = beside (r .vehicle) (r .answer)
+abbrev pub unitRead : Read VehicleUnit → UnitRead
+unitRead x = record { answer = passedOf x; unit = partOf emptyUnit x }
 
-abbrev pub asStart : StartRead → Read Start
-asStart r = beside (r .start) (r .answer)
+abbrev pub unitsRead : Read (List VehicleUnit) → UnitsRead
+unitsRead x = record { answer = passedOf x; units = partOf emptyUnits x }
 
-abbrev pub asElement : ElementRead → Read Element
-asElement r = beside (r .element) (r .answer)
+abbrev pub vehicleRead : Read Vehicle → VehicleRead
+vehicleRead x = record { answer = passedOf x; vehicle = partOf emptyVehicle x }
 
-abbrev pub asElements : ElementsRead → Read (List Element)
-asElements r = beside (r .elements) (r .answer)
+abbrev pub startRead : Read Start → StartRead
+startRead x = record { answer = passedOf x; start = partOf emptyStart x }
 
-abbrev pub asJob : PathRead → Read Job
-asJob r = beside (r .job) (r .answer)
+abbrev pub elementRead : Read Element → ElementRead
+elementRead x = record { answer = passedOf x; element = partOf emptyElement x }
+
+abbrev pub elementsRead : Read (List Element) → ElementsRead
+elementsRead x = record { answer = passedOf x; elements = partOf emptyElements x }
+
+abbrev pub pathRead : Read Job → PathRead
+pathRead x = record { answer = passedOf x; job = partOf emptyJob x }
 
 -- the job, or the refusal's number and place with the empty job
 abbrev pub jobRead : Read Job → JobRead

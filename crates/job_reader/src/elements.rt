@@ -21,10 +21,10 @@ ghost use Rattle.number.specs.Answers.{asSigned};
 ghost use Rattle.job.specs.Curves.{curveOf, radiusAllowed};
 ghost use Rattle.job.specs.Inner.{ElementsInUse};
 ghost use Rattle.job_reader.specs.Record.{readStart, readElement, readElements, readPath};
-ghost use Rattle.job_reader.specs.Answers.{asStart, asElement, asElements, asJob};
+ghost use Rattle.job_reader.specs.Answers.{startRead, elementRead, elementsRead, pathRead};
 
 fn refused_start(w: Refusal) -> StartRead
-    ensures { λ r. ⌜ asStart r ≡ refused (w .number) (w .place) ⌝ }
+    ensures { λ r. ⌜ r ≡ startRead (refused (w .number) (w .place)) ⌝ }
 {
     StartRead {
         answer: Passed::Refused(w.number, w.place),
@@ -39,7 +39,7 @@ fn refused_start(w: Refusal) -> StartRead
 
 // The heading is tested after gy; its refusal is placed at gx.
 pub fn read_start(s: &[u8], c: Cursor) -> StartRead
-    ensures { λ r. ⌜ asStart r ≡ readStart (now (s .entry)) (c .at) ⌝ }
+    ensures { λ r. ⌜ r ≡ startRead (readStart (now (s .entry)) (c .at)) ⌝ }
 {
     let a = number::read_sized(s, c, 6, job::COORDINATE);
     let Signed::Value(x, c1) = a else {
@@ -97,7 +97,7 @@ fn read_radius(s: &[u8], c: Cursor) -> Signed
 }
 
 fn refused_element(w: Refusal) -> ElementRead
-    ensures { λ r. ⌜ asElement r ≡ refused (w .number) (w .place) ⌝ }
+    ensures { λ r. ⌜ r ≡ elementRead (refused (w .number) (w .place)) ⌝ }
 {
     ElementRead {
         answer: Passed::Refused(w.number, w.place),
@@ -109,7 +109,7 @@ fn refused_element(w: Refusal) -> ElementRead
 }
 
 fn read_element(s: &[u8], c: Cursor) -> ElementRead
-    ensures { λ r. ⌜ asElement r ≡ readElement (now (s .entry)) (c .at) ⌝ }
+    ensures { λ r. ⌜ r ≡ elementRead (readElement (now (s .entry)) (c .at)) ⌝ }
 {
     let a = number::read_within(s, c, 8, job::LENGTH);
     let Number::Value(length, c1) = a else {
@@ -126,10 +126,20 @@ fn read_element(s: &[u8], c: Cursor) -> ElementRead
     }
 }
 
+fn refused_elements(w: Refusal) -> ElementsRead
+    ensures { λ r. ⌜ r ≡ elementsRead (refused (w .number) (w .place)) ⌝ }
+{
+    let elements = job::empty_elements();
+    ElementsRead {
+        answer: Passed::Refused(w.number, w.place),
+        elements,
+    }
+}
+
 // The total of steps runs along; it is tested after all elements, and its refusal is placed at their number.
 fn read_elements(s: &[u8], c: Cursor, count: usize, step: u32, place: usize) -> ElementsRead
     requires { ⌜ ElementsInUse step count ⌝ }
-    ensures { λ r. ⌜ asElements r ≡ readElements step place count (now (s .entry)) (c .at) ⌝ }
+    ensures { λ r. ⌜ r ≡ elementsRead (readElements step place count (now (s .entry)) (c .at)) ⌝ }
 {
     let mut elements = job::empty_elements();
     let mut at = c;
@@ -139,10 +149,7 @@ fn read_elements(s: &[u8], c: Cursor, count: usize, step: u32, place: usize) -> 
         let r = read_element(s, at);
         let a = r.answer;
         let Passed::At(next) = a else {
-            return ElementsRead {
-                answer: a,
-                elements,
-            };
+            return refused_elements(crate::passed_refusal(a));
         };
         let e = r.element;
         elements[i] = e;
@@ -156,14 +163,11 @@ fn read_elements(s: &[u8], c: Cursor, count: usize, step: u32, place: usize) -> 
             elements,
         };
     }
-    ElementsRead {
-        answer: Passed::Refused(9, place),
-        elements,
-    }
+    refused_elements(Refusal { number: 9, place })
 }
 
 fn refused_path(w: Refusal) -> PathRead
-    ensures { λ r. ⌜ asJob r ≡ refused (w .number) (w .place) ⌝ }
+    ensures { λ r. ⌜ r ≡ pathRead (refused (w .number) (w .place)) ⌝ }
 {
     let job = job::empty_job();
     PathRead {
@@ -174,7 +178,7 @@ fn refused_path(w: Refusal) -> PathRead
 
 // The step and the elements, behind a vehicle and a start.
 pub fn read_path(s: &[u8], c: Cursor, vehicle: Vehicle, start: Start) -> PathRead
-    ensures { λ r. ⌜ asJob r ≡ readPath vehicle start (now (s .entry)) (c .at) ⌝ }
+    ensures { λ r. ⌜ r ≡ pathRead (readPath vehicle start (now (s .entry)) (c .at)) ⌝ }
 {
     let a = number::read_within(s, c, 7, job::STEP);
     let Number::Value(step, c1) = a else {

@@ -14,7 +14,8 @@ ghost use Rattle.number.specs.Read.{refused};
 ghost use Rattle.number.specs.Answers.{refusalOf};
 ghost use Rattle.job_reader.specs.Answers.{asPassed, jobRead, ReadEnsures};
 
-// Where reading goes on, or a refusal's number and place. It stands beside what was read, since an enum holds no array.
+// Where reading goes on, or a refusal's number and place. It stands beside what was read, since an enum holds no array; beside a refusal
+// stands the empty part.
 pub enum Passed {
     At(Cursor),
     Refused(u8, usize),

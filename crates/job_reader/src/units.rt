@@ -16,7 +16,7 @@ ghost use Rattle.number.specs.Answers.{asSigned};
 ghost use Rattle.job.specs.Allowed.{foldAllowed};
 ghost use Rattle.job.specs.Inner.{UnitsInUse};
 ghost use Rattle.job_reader.specs.Record.{readUnit, readUnits, readWidths, readVehicle};
-ghost use Rattle.job_reader.specs.Answers.{asUnit, asUnits, asVehicle};
+ghost use Rattle.job_reader.specs.Answers.{unitRead, unitsRead, vehicleRead};
 
 fn read_fold(s: &[u8], c: Cursor, first: bool) -> Signed
     ensures { λ r. ⌜ asSigned r ≡ signedField 4 (foldAllowed first) (now (s .entry)) (c .at) ⌝ }
@@ -33,7 +33,7 @@ fn read_fold(s: &[u8], c: Cursor, first: bool) -> Signed
 }
 
 fn refused_unit(w: Refusal) -> UnitRead
-    ensures { λ r. ⌜ asUnit r ≡ refused (w .number) (w .place) ⌝ }
+    ensures { λ r. ⌜ r ≡ unitRead (refused (w .number) (w .place)) ⌝ }
 {
     UnitRead {
         answer: Passed::Refused(w.number, w.place),
@@ -46,7 +46,7 @@ fn refused_unit(w: Refusal) -> UnitRead
 }
 
 fn read_unit(s: &[u8], c: Cursor, first: bool, last: bool) -> UnitRead
-    ensures { λ r. ⌜ asUnit r ≡ readUnit first last (now (s .entry)) (c .at) ⌝ }
+    ensures { λ r. ⌜ r ≡ unitRead (readUnit first last (now (s .entry)) (c .at)) ⌝ }
 {
     let a = number::read_within(s, c, 4, job::WHEELBASE);
     let Number::Value(wheelbase, c1) = a else {
@@ -70,9 +70,19 @@ fn read_unit(s: &[u8], c: Cursor, first: bool, last: bool) -> UnitRead
     }
 }
 
+fn refused_units(w: Refusal) -> UnitsRead
+    ensures { λ r. ⌜ r ≡ unitsRead (refused (w .number) (w .place)) ⌝ }
+{
+    let units = job::empty_units();
+    UnitsRead {
+        answer: Passed::Refused(w.number, w.place),
+        units,
+    }
+}
+
 fn read_units(s: &[u8], c: Cursor, count: usize) -> UnitsRead
     requires { ⌜ UnitsInUse count ⌝ }
-    ensures { λ r. ⌜ asUnits r ≡ readUnits count (now (s .entry)) (c .at) ⌝ }
+    ensures { λ r. ⌜ r ≡ unitsRead (readUnits count (now (s .entry)) (c .at)) ⌝ }
 {
     let mut units = job::empty_units();
     let mut at = c;
@@ -81,7 +91,7 @@ fn read_units(s: &[u8], c: Cursor, count: usize) -> UnitsRead
         let r = read_unit(s, at, i == 0, i + 1 == count);
         let a = r.answer;
         let Passed::At(next) = a else {
-            return UnitsRead { answer: a, units };
+            return refused_units(crate::passed_refusal(a));
         };
         let u = r.unit;
         units[i] = u;
@@ -95,7 +105,7 @@ fn read_units(s: &[u8], c: Cursor, count: usize) -> UnitsRead
 }
 
 fn refused_vehicle(w: Refusal) -> VehicleRead
-    ensures { λ r. ⌜ asVehicle r ≡ refused (w .number) (w .place) ⌝ }
+    ensures { λ r. ⌜ r ≡ vehicleRead (refused (w .number) (w .place)) ⌝ }
 {
     let vehicle = job::empty_vehicle();
     VehicleRead {
@@ -106,7 +116,7 @@ fn refused_vehicle(w: Refusal) -> VehicleRead
 
 // The overhang and the half widths, which stand once after all units.
 fn read_widths(s: &[u8], c: Cursor, count: usize, units: [Unit; 4]) -> VehicleRead
-    ensures { λ r. ⌜ asVehicle r ≡ readWidths count units (now (s .entry)) (c .at) ⌝ }
+    ensures { λ r. ⌜ r ≡ vehicleRead (readWidths count units (now (s .entry)) (c .at)) ⌝ }
 {
     let a = number::read_within(s, c, 5, job::OVERHANG);
     let Number::Value(overhang, c1) = a else {
@@ -133,7 +143,7 @@ fn read_widths(s: &[u8], c: Cursor, count: usize, units: [Unit; 4]) -> VehicleRe
 }
 
 pub fn read_vehicle(s: &[u8], c: Cursor) -> VehicleRead
-    ensures { λ r. ⌜ asVehicle r ≡ readVehicle (now (s .entry)) (c .at) ⌝ }
+    ensures { λ r. ⌜ r ≡ vehicleRead (readVehicle (now (s .entry)) (c .at)) ⌝ }
 {
     let a = number::read_within(s, c, 3, job::UNIT_COUNT);
     let Number::Value(v, c1) = a else {

@@ -18,8 +18,9 @@ use Rattle.job_reader.specs.Answers.{jobRead, ReadEnsures}
 use Rattle.job_reader.specs.declared.ReadAnswer.the-variants as A
 use Rattle.job_reader.specs.declared.JobRead.{JobRead}
 use Rattle.job_writer.specs.Write.{writeJob}
-use Rattle.job_writer.specs.Answers.{writeFault, wrote}
+use Rattle.job_writer.specs.Answers.{writeFault, wrote, WriteEnsures}
 use Rattle.job_writer.specs.Claims.{OneEncoding, RecordLength}
+use Rattle.job_writer.specs.declared.Wrote.{Wrote}
 use Rattle.job_writer.specs.declared.Wrote.the-variants as W
 use Rattle.job_writer.proofs.LengthLaws.{record-length}
 use Rattle.job_writer.proofs.RoundTrip.{Back, written-read, read-written, cleared-same}
@@ -41,21 +42,37 @@ made : (f n m : ℕ) → W.Bytes n ≡ wrote f m → (f ≡ 0) × (n ≡ m)
 made zero n m p = (refl, cc)
 made (suc f) n m p = absurd (let z : _≡_ {A = ℕ} 0 1 = cc in omega arith)
 
+-- no fault and room: written
+written : (j : Job) (before : List ℕ) (w : Wrote) (after : List ℕ) → WriteEnsures j before w after → judge j ≡ 0 → length (writeJob j) ≤ length before
+    → (w ≡ W.Bytes (length (writeJob j))) × (after ≡ sets before 0 (writeJob j))
+written j before w after k h l =
+    let f : writeFault j (length before) ≡ 0 = rw (h, le-leb (length (writeJob j)) (length before) l) in
+    (k .answer ∙ rw f, k .written ∙ rw f)
+
+-- the record of a job without a fault is read as that job, its unused entries emptied
+read-cleared : (j : Job) → length (j .vehicle .units) ≡ 4 → length (j .elements) ≡ 64 → judge j ≡ 0 → jobRead (readJob (writeJob j)) ≡ record { answer = A.Accepted; job = cleared j }
+read-cleared j u e h =
+    let c = cleared-same j u e h in
+    ap (λ (x : List ℕ). jobRead (readJob x)) (sym (c .written)) ∙ ap jobRead (written-read (cleared j) (c .judged) (c .once))
+
 pub one-encoding : OneEncoding
 one-encoding = record {
+  written = λ j before w after k h l.
+      let room : length (writeJob j) ≤ length before = omega arith in
+      written j before w after k h room;
+  accepted = λ j u e h r k. k .answer ∙ read-cleared j u e h;
   write-after-read = λ s r h a before w after k l.
       let b = back s r h a .1 in
       let n : length (writeJob (r .job)) ≤ length before = omega (arith, ap length (b .written)) in
-      let f : writeFault (r .job) (length before) ≡ 0 = rw (b .judged, le-leb (length (writeJob (r .job))) (length before) n) in
-      (k .answer ∙ rw (f, b .written), k .written ∙ rw (f, b .written));
+      let m = written (r .job) before w after k (b .judged) n in
+      (m .0 ∙ rw (b .written), m .1 ∙ rw (b .written));
   read-after-write = λ j before n after k r h.
       let m = made (writeFault j (length before)) n (length (writeJob j)) (k .answer) in
       let f = first-none (judge j) (orFault (leb (length (writeJob j)) (length before)) 28 0) (m .0) in
       let l : length (writeJob j) ≤ length before = leb-true (length (writeJob j)) (length before) (or-none (leb (length (writeJob j)) (length before)) 27 0 (f .1) .0) in
-      let c = cleared-same j (k .units) (k .elements) (f .0) in
       let a : after ≡ sets before 0 (writeJob j) = k .written ∙ rw (m .0) in
-      let t : take n after ≡ writeJob (cleared j) = rw (a, m .1) (take-sets before (writeJob j) (length (writeJob j)) refl l) ∙ sym (c .written) in
-      h .answer ∙ ap (λ (x : List ℕ). jobRead (readJob x)) t ∙ ap jobRead (written-read (cleared j) (c .judged) (c .once));
+      let t : take n after ≡ writeJob j = rw (a, m .1) (take-sets before (writeJob j) (length (writeJob j)) refl l) in
+      h .answer ∙ ap (λ (x : List ℕ). jobRead (readJob x)) t ∙ read-cleared j (k .units) (k .elements) (f .0);
   one = λ s t r q h k a b e.
       sym (back s r h a .1 .written) ∙ ap writeJob e ∙ back t q k b .1 .written;
 }
@@ -65,6 +82,8 @@ length-claim = record {
   longest = λ s r h a.
       let b = back s r h a .1 in
       omega (arith, record-length (r .job) (b .judged), ap length (b .written));
+  by-value = record-length;
   under = omega arith;
+  room = λ j before w after k h l. written j before w after k h (omega (arith, record-length j h)) .0;
   enough = λ s r q h k. h .answer ∙ ap jobRead (sym (first-bytes 1024 s (omega arith))) ∙ sym (k .answer);
 }

@@ -10,8 +10,9 @@ use Rattle.number.proofs.ManyLaws.{into-end, into-more, into-refused}
 use Rattle.job.specs.Steps.{tally}
 use Rattle.job.specs.declared.Element.{Element}
 use Rattle.job_reader.specs.Record.{readElement, readTotal, readElements}
-use Rattle.job_reader.specs.Answers.{beside}
+use Rattle.job_reader.specs.Answers.{beside, elementsRead}
 use Rattle.job_reader.proofs.ReadLaws.{tally-read}
+use Rattle.job_reader.proofs.PartLaws.{element-of}
 use Rattle.job_reader.proofs.elements.read_elements.Statement.{statement}
 use Rattle.job_reader.proofs.elements.read_elements.Tie as tie
 
@@ -35,6 +36,10 @@ done c =
     let o = c .before .before .before .before .before in
     sym (into-end (λ t. readElement) (tally (o .args .step)) (readTotal (o .args .place)) (o .args .s .now) (l .elements) (o .args .count) (l .i) (l .at .at) (l .total) (c .before .loop-test .left)) ∙ l .inv .2
 
+-- the element that was read
+element : (c : tie.After-read-element Inv-loop μ-loop) → beside (c .read-element .result .element) (c .read-element .result .answer) ≡ readElement (c .before .before .before .before .before .args .s .now) (c .before .before .loop .at .at)
+element c = element-of (c .read-element .ensures)
+
 empty-elements-requires : tie.Need-empty-elements-requires Inv-loop μ-loop
 empty-elements-requires c κs = search needs
 
@@ -51,11 +56,18 @@ enum-known-a c = search needs
 enum-told : tie.Need-enum-told Inv-loop μ-loop
 enum-told c = search needs
 
+passed-refusal-requires : tie.Need-passed-refusal-requires Inv-loop μ-loop
+passed-refusal-requires c κs = search needs
+
+refused-elements-requires : tie.Need-refused-elements-requires Inv-loop μ-loop
+refused-elements-requires c κs = search needs
+
 returns : tie.Need-returns Inv-loop μ-loop
-returns c = let l = c .before .before .before .before .loop in
-    let a = c .before .before .before .before .before .before .before .args in
-    rw (c .enum-told .given .1)
-    (sym (into-refused (λ t. readElement) (tally (a .step)) (readTotal (a .place)) _ (l .elements) (a .count) (l .i) _ (l .total) (c .before .before .before .loop-test .taken) (sym (ap (beside (c .before .before .read-element .result .element)) (c .enum-told .given .1)) ∙ c .before .before .read-element .ensures)) ∙ l .inv .2)
+returns c = let l = c .before .before .before .before .before .before .loop in
+    let a = c .before .before .before .before .before .before .before .before .before .args in
+    let r = c .before .before .before .before in
+    rw (c .refused-elements .ensures, c .before .passed-refusal .ensures, c .before .before .enum-told .given .1)
+    (ap elementsRead (sym (into-refused (λ t. readElement) (tally (a .step)) (readTotal (a .place)) _ (l .elements) (a .count) (l .i) _ (l .total) (c .before .before .before .before .before .loop-test .taken) (sym (ap (beside (r .read-element .result .element)) (c .before .before .enum-told .given .1)) ∙ element r)) ∙ l .inv .2))
 
 mul-elements : tie.Need-mul-elements Inv-loop μ-loop
 mul-elements c = search needs
@@ -75,9 +87,8 @@ loop-less c = search needs
 loop-again : tie.Need-loop-again Inv-loop μ-loop
 loop-again c = let l = c .before .before .before .before .before .before .before .loop in
     let a = c .before .before .before .before .before .before .before .before .before .before .args in
-    let r = c .before .before .before .before .before .read-element in
-    let e = r .result .element in
-    let g = sym (ap (beside e) (c .before .before .before .a .given .1)) ∙ r .ensures in
+    let e = c .before .before .before .before .before .read-element .result .element in
+    let g = sym (ap (beside e) (c .before .before .before .a .given .1)) ∙ element (c .before .before .before .before .before) in
     let t : c .tally-element .result ≡ tally (a .step) (l .total) e = c .tally-element .ensures in (
       omega arith,
       omega (arith, t, l .inv .1, tally-read (a .step) (l .total) _ _ e _ (sym g)),
@@ -88,10 +99,13 @@ steps-allowed-requires : tie.Need-steps-allowed-requires Inv-loop μ-loop
 steps-allowed-requires c κs = search needs
 
 returns-2 : tie.Need-returns-2 Inv-loop μ-loop
-returns-2 c = rw (sym (c .before .steps-allowed .ensures) ∙ c .if1 .taken) at (done (c .before))
+returns-2 c = ap elementsRead (rw (sym (c .before .steps-allowed .ensures) ∙ c .if1 .taken) at (done (c .before)))
+
+refused-elements-requires-2 : tie.Need-refused-elements-requires-2 Inv-loop μ-loop
+refused-elements-requires-2 c κs = search needs
 
 returns-3 : tie.Need-returns-3 Inv-loop μ-loop
-returns-3 c = rw (sym (c .before .steps-allowed .ensures) ∙ c .if1 .left) at (done (c .before))
+returns-3 c = c .refused-elements2 .ensures ∙ ap elementsRead (rw (sym (c .before .before .steps-allowed .ensures) ∙ c .before .if1 .left) at (done (c .before .before)))
 
 pub read-elements-spec : {M : Type 1} → statement M
 read-elements-spec =
@@ -104,6 +118,8 @@ read-elements-spec =
     read-element-requires
     enum-known-a
     enum-told
+    passed-refusal-requires
+    refused-elements-requires
     returns
     mul-elements
     array-set-from-elements
@@ -113,4 +129,5 @@ read-elements-spec =
     loop-again
     steps-allowed-requires
     returns-2
+    refused-elements-requires-2
     returns-3)

@@ -1,10 +1,12 @@
 -- `job_reader::elements::read_path` meets its contract. Assumes nothing.
 use Prim.Native.Nat.{_≤_}
 use native.Mathlib.Omega.{arith}
-use mathlib.Core.Path.{_∙_, sym, ap}
+use mathlib.Core.Path.{_≡_, _∙_, sym, ap}
 use Rattle.number.specs.Answers.{asNumber}
-use Rattle.job_reader.specs.Record.{readPath}
+use Rattle.job_reader.specs.Record.{readElements, readPath}
+use Rattle.job_reader.specs.Answers.{beside}
 use Rattle.job_reader.proofs.ReadLaws.{field-within}
+use Rattle.job_reader.proofs.PartLaws.{elements-of}
 use borrow.Author.Needs.{needs}
 use Rattle.job_reader.proofs.elements.read_path.Statement.{statement}
 use Rattle.job_reader.proofs.elements.read_path.Tie as tie
@@ -15,6 +17,13 @@ step c = field-within 7 (record { least = 100; most = 20000 }) _ _ _ _ (sym (ap 
 
 count : (c : tie.After-b) → c .b .given .0 .0 ≤ 64
 count c = field-within 8 (record { least = 1; most = 64 }) _ _ _ _ (sym (ap asNumber (c .b .given .1)) ∙ c .before .before .read-within2 .ensures) .1
+
+-- the elements that were read
+elements : (c : tie.After-read-elements) →
+    let b = c .before .before in
+    let a = b .before .before .before .before in
+    beside (c .read-elements .result .elements) (c .read-elements .result .answer) ≡ readElements (a .a .given .0 .0) (a .a .given .0 .1 .0 .at) (b .b .given .0 .0) (a .before .before .before .before .args .s .now) (b .b .given .0 .1 .0 .at)
+elements c = elements-of (c .read-elements .ensures)
 
 read-within-requires : tie.Need-read-within-requires
 read-within-requires c κs = search needs
@@ -74,11 +83,11 @@ refused-path-requires-3 c κs = search needs
 
 returns-3 : tie.Need-returns-3
 unfolding readPath
-returns-3 c = rw (c .refused-path3 .ensures, c .before .passed-refusal .ensures, ← c .before .before .before .before .before .before .before .before .before .before .before .before .read-within .ensures, c .before .before .before .before .before .before .before .before .before .before .a .given .1, ← c .before .before .before .before .before .before .before .before .read-within2 .ensures, c .before .before .before .before .before .before .b .given .1, ← c .before .before .before .before .read-elements .ensures, c .before .before .enum-told3 .given .1)
+returns-3 c = rw (c .refused-path3 .ensures, c .before .passed-refusal .ensures, ← c .before .before .before .before .before .before .before .before .before .before .before .before .read-within .ensures, c .before .before .before .before .before .before .before .before .before .before .a .given .1, ← c .before .before .before .before .before .before .before .before .read-within2 .ensures, c .before .before .before .before .before .before .b .given .1, ← elements (c .before .before .before .before), c .before .before .enum-told3 .given .1)
 
 returns-4 : tie.Need-returns-4
 unfolding readPath
-returns-4 c = rw (← c .before .before .before .before .before .before .before .before .before .before .before .before .read-within .ensures, c .before .before .before .before .before .before .before .before .before .before .a .given .1, ← c .before .before .before .before .before .before .before .before .read-within2 .ensures, c .before .before .before .before .before .before .b .given .1, ← c .before .before .before .before .read-elements .ensures, c .before .before .d .given .1)
+returns-4 c = rw (← c .before .before .before .before .before .before .before .before .before .before .before .before .read-within .ensures, c .before .before .before .before .before .before .before .before .before .before .a .given .1, ← c .before .before .before .before .before .before .before .before .read-within2 .ensures, c .before .before .before .before .before .before .b .given .1, ← elements (c .before .before .before .before), c .before .before .d .given .1)
 
 pub read-path-spec : {M : Type 1} → statement M
 read-path-spec =

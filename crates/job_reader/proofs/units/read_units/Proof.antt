@@ -9,7 +9,8 @@ use Rattle.number.specs.Read.{Reader, return, many, into}
 use Rattle.number.proofs.ManyLaws.{into-end, into-more, into-refused}
 use Rattle.job.specs.declared.Unit.{Unit as VehicleUnit}
 use Rattle.job_reader.specs.Record.{readUnitAt, readUnits}
-use Rattle.job_reader.specs.Answers.{beside}
+use Rattle.job_reader.specs.Answers.{beside, unitsRead}
+use Rattle.job_reader.proofs.PartLaws.{unit-of}
 use Rattle.job_reader.proofs.units.read_units.Statement.{statement}
 use Rattle.job_reader.proofs.units.read_units.Tie as tie
 
@@ -28,6 +29,13 @@ Inv-loop s count units₀ at₀ i₀ units at i = (i ≤ count) × (into units i
 
 abbrev μ-loop : tie.MeasureT-loop
 μ-loop s count units₀ at₀ i₀ units at i = count - i
+
+-- the unit that was read
+unit : (c : tie.After-read-unit Inv-loop μ-loop) →
+    let l = c .before .before .loop in
+    let a = c .before .before .before .before .before .args in
+    beside (c .read-unit .result .unit) (c .read-unit .result .answer) ≡ readUnitAt (a .count) (l .i) (a .s .now) (l .at .at)
+unit c = unit-of (c .read-unit .ensures)
 
 empty-units-requires : tie.Need-empty-units-requires Inv-loop μ-loop
 empty-units-requires c κs = search needs
@@ -48,11 +56,18 @@ enum-known-a c = search needs
 enum-told : tie.Need-enum-told Inv-loop μ-loop
 enum-told c = search needs
 
+passed-refusal-requires : tie.Need-passed-refusal-requires Inv-loop μ-loop
+passed-refusal-requires c κs = search needs
+
+refused-units-requires : tie.Need-refused-units-requires Inv-loop μ-loop
+refused-units-requires c κs = search needs
+
 returns : tie.Need-returns Inv-loop μ-loop
-returns c = let l = c .before .before .before .before .loop in
-    let a = c .before .before .before .before .before .before .before .args .count in
-    rw (c .enum-told .given .1)
-    (sym (into-refused (readUnitAt a) next end _ (l .units) a (l .i) _ (l .i) (c .before .before .before .loop-test .taken) (sym (ap (beside (c .before .before .read-unit .result .unit)) (c .enum-told .given .1)) ∙ c .before .before .read-unit .ensures)) ∙ l .inv .1)
+returns c = let l = c .before .before .before .before .before .before .loop in
+    let a = c .before .before .before .before .before .before .before .before .before .args .count in
+    let r = c .before .before .before .before in
+    rw (c .refused-units .ensures, c .before .passed-refusal .ensures, c .before .before .enum-told .given .1)
+    (ap unitsRead (sym (into-refused (readUnitAt a) next end _ (l .units) a (l .i) _ (l .i) (c .before .before .before .before .before .loop-test .taken) (sym (ap (beside (r .read-unit .result .unit)) (c .before .before .enum-told .given .1)) ∙ unit r)) ∙ l .inv .1))
 
 mul-units : tie.Need-mul-units Inv-loop μ-loop
 mul-units c = search needs
@@ -69,12 +84,12 @@ loop-less c = search needs
 loop-again : tie.Need-loop-again Inv-loop μ-loop
 loop-again c = let l = c .before .before .before .before .before .before .loop in
     let a = c .before .before .before .before .before .before .before .before .before .args .count in
-    (omega arith, sym (into-more (readUnitAt a) next end _ (l .units) a (l .i) _ (l .i) (c .before .before .before .before .before .loop-test .taken) (sym (ap (beside (c .before .before .before .before .read-unit .result .unit)) (c .before .before .a .given .1)) ∙ c .before .before .before .before .read-unit .ensures)) ∙ l .inv .1)
+    (omega arith, sym (into-more (readUnitAt a) next end _ (l .units) a (l .i) _ (l .i) (c .before .before .before .before .before .loop-test .taken) (sym (ap (beside (c .before .before .before .before .read-unit .result .unit)) (c .before .before .a .given .1)) ∙ unit (c .before .before .before .before))) ∙ l .inv .1)
 
 returns-2 : tie.Need-returns-2 Inv-loop μ-loop
 returns-2 c = let l = c .before .loop in
     let a = c .before .before .before .before .args .count in
-    sym (into-end (readUnitAt a) next end _ (l .units) a (l .i) _ (l .i) (c .loop-test .left)) ∙ l .inv .1
+    ap unitsRead (sym (into-end (readUnitAt a) next end _ (l .units) a (l .i) _ (l .i) (c .loop-test .left)) ∙ l .inv .1)
 
 pub read-units-spec : {M : Type 1} → statement M
 read-units-spec =
@@ -88,6 +103,8 @@ read-units-spec =
     read-unit-requires
     enum-known-a
     enum-told
+    passed-refusal-requires
+    refused-units-requires
     returns
     mul-units
     array-set-from-units
