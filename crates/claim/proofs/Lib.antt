@@ -1,3 +1,4 @@
+pub mod Example
 pub mod CallsKept
 pub mod HistoryLaws
 pub mod HistoryKept

@@ -39,8 +39,7 @@ use Rattle.run.proofs.CourseLaws.{course-lengths}
 use Rattle.run.proofs.OverLaws.{placed-going}
 use Rattle.run.proofs.RunLaws.{all-passed, runnable}
 use Rattle.claim.specs.DemandThree.{Turn, Chain}
-use Rattle.claim.specs.StationHistory.{Handed, lastRuns}
-use Rattle.claim.specs.WholeRun.{UntilRefused, lastAnswer, Told, Run, Ensured, Untouched, Followed, WholeRun}
+use Rattle.claim.specs.WholeRun.{Handed, lastRuns, UntilRefused, lastAnswer, Told, Run, Ensured, Untouched, Followed, WholeRun}
 use Rattle.claim.proofs.CallsKept.{none-refused, passed}
 use Rattle.claim.proofs.RunFollows.{asCall, Ended, calls-end}
 

@@ -8,7 +8,7 @@ pub fn demand_three()
     ensures { λ _. ⌜ DemandThree ⌝ }
 {}
 
-// Claim: after an accepted placement and any calls over its path, each station has a bit for just the points that crossed it in a made step, and the least and greatest of the reaches that entered.
+// Claim: after an accepted placement and any calls, refused ones of any kind among them, each station has a bit for just the points that crossed it in a made step, and the least and greatest of the reaches that entered.
 pub fn station_history()
     ensures { λ _. ⌜ StationHistory ⌝ }
 {}
