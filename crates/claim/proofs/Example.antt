@@ -27,7 +27,7 @@ use Rattle.stations.proofs.StepLaws.{refused-not-made, unit-not-made}
 use Rattle.claim.specs.DemandThree.{Turn, Chain}
 use Rattle.claim.specs.StationHistory.{History, MadeOver, Lawful}
 
-abbrev vehicle : Vehicle
+abbrev pub vehicle : Vehicle
 vehicle = record {
   count = 1;
   units = record { wheelbase = 5000; hitch = pos 0; fold = pos 0 } ∷ emptyUnit ∷ emptyUnit ∷ emptyUnit ∷ [];
@@ -48,7 +48,7 @@ pathTo y = pathRuns
     (pos 0 ∷ pos 0 ∷ pos 0 ∷ pos 0 ∷ [])
     (pos 1000000 ∷ pos 1000000 ∷ pos 1000000 ∷ pos 1000000 ∷ [])
 
-abbrev path : PathRuns
+abbrev pub path : PathRuns
 path = pathTo (pos 15000)
 
 -- a path of one station, too far east
@@ -56,7 +56,7 @@ abbrev tooFarEast : PathRuns
 tooFarEast = pathRuns (pos 150000001 ∷ []) (pos 0 ∷ []) (pos 0 ∷ []) (pos 1000000 ∷ [])
 
 -- what the runs hold after 0, 1, 2 and 3 steps: a station is first crossed by the four points in front, a step later by the rear wheels
-abbrev none : Reaches
+abbrev pub none : Reaches
 none = reachRuns (pos 2000000000 ∷ pos 2000000000 ∷ pos 2000000000 ∷ pos 2000000000 ∷ []) (negsuc 1999999999 ∷ negsuc 1999999999 ∷ negsuc 1999999999 ∷ negsuc 1999999999 ∷ []) (0 ∷ 0 ∷ 0 ∷ 0 ∷ [])
 
 abbrev one : Reaches
@@ -65,11 +65,11 @@ one = reachRuns (negsuc 999 ∷ negsuc 999 ∷ pos 2000000000 ∷ pos 2000000000
 abbrev two : Reaches
 two = reachRuns (negsuc 999 ∷ negsuc 999 ∷ negsuc 999 ∷ pos 2000000000 ∷ []) (pos 1000 ∷ pos 1000 ∷ pos 1000 ∷ negsuc 1999999999 ∷ []) (48 ∷ 63 ∷ 15 ∷ 0 ∷ [])
 
-abbrev three : Reaches
+abbrev pub three : Reaches
 three = reachRuns (negsuc 999 ∷ negsuc 999 ∷ negsuc 999 ∷ negsuc 999 ∷ []) (pos 1000 ∷ pos 1000 ∷ pos 1000 ∷ pos 1000 ∷ []) (48 ∷ 63 ∷ 63 ∷ 15 ∷ [])
 
 -- runs of zeros, no runs, and runs of one entry
-abbrev zeros : Reaches
+abbrev pub zeros : Reaches
 zeros = reachRuns (pos 0 ∷ pos 0 ∷ pos 0 ∷ pos 0 ∷ []) (pos 0 ∷ pos 0 ∷ pos 0 ∷ pos 0 ∷ []) (0 ∷ 0 ∷ 0 ∷ 0 ∷ [])
 
 abbrev noRuns : Reaches
@@ -94,8 +94,9 @@ turns =
     ∷ turn 4 path three (S.Refused 25) 3 three
     ∷ []
 
-abbrev pub example : History
-example = record {
+-- the placement, and calls after it
+abbrev pub placedThen : List Turn → History
+placedThen ts = record {
   vehicle = vehicle;
   walk = at 0;
   asked = 4;
@@ -103,8 +104,15 @@ example = record {
   before = zeros;
   placing = record { answer = P.Placed; walk = at 0 };
   after = none;
-  turns = turns;
+  turns = ts;
 }
+
+abbrev pub example : History
+example = placedThen turns
+
+-- none at all
+abbrev pub noCalls : History
+noCalls = placedThen []
 
 -- each call by computing
 placed : PlaceEnsures vehicle (at 0) (callOf 4 path zeros) zeros (record { answer = P.Placed; walk = at 0 }) none
@@ -170,3 +178,7 @@ over = (
 
 pub example-lawful : Lawful example
 example-lawful = record { placement = placed; accepted = refl; chain = chain; over = over }
+
+pub no-calls-lawful : Lawful noCalls
+unfolding Chain MadeOver
+no-calls-lawful = record { placement = placed; accepted = refl; chain = tt; over = tt }

@@ -17,11 +17,12 @@ use Rattle.reaches.specs.declared.Cell.{Cell}
 use Rattle.reaches.specs.Cells.{Reaches, cellAt, clearedCell, cleared}
 use Rattle.reaches.specs.Crossing.{hasBit, crossedFrom, crossed}
 use Rattle.reaches.specs.Inner.{Room}
-use Rattle.reaches.proofs.CellLaws.{cell-below, stations-lengths, same-room}
+use Rattle.reaches.proofs.CellLaws.{SameLengths, cell-below, stations-lengths, lengths-of, same-room}
 use Rattle.walk.specs.Tests.{lent, pathSound, vehicleSound}
 use Rattle.walk.specs.Rig.{drawnStart}
 use Rattle.stations.proofs.Entering.{room-of}
 use Rattle.stations.specs.Placing.{callOf, placeRefusal, unlessRefused, startHeading}
+use Rattle.run.proofs.WalkingLaws.{same-call}
 use Rattle.claim.proofs.CallsKept.{none-refused, passed}
 use Rattle.stations.specs.Stepping.{pointsAt, ifMade, StepEnsures}
 use Rattle.claim.specs.DemandThree.{Turn, Chain}
@@ -30,28 +31,23 @@ use Rattle.claim.proofs.WholeRig.{all-set, set-all}
 use Rattle.claim.proofs.HistoryLaws.{KeptFrom, kept-none, kept-more}
 use Rattle.claim.proofs.Example.{example, example-lawful}
 
-six-points : (s : Drawn) (c : Call) → length (pointsAt s c) ≡ 6
+pub six-points : (s : Drawn) (c : Call) → length (pointsAt s c) ≡ 6
 unfolding rigPoints
 six-points s c = refl
 
-module _ (asked : ℕ) (path : PathRuns) (i : ℕ) (h : i < asked) where
-  abbrev here : Station
-  here = stationAt path i
+-- the record that a call leaves shows the drawn rig's next state
+next-state : (s : Drawn) (w : Walk) → view w ≡ s → (t : Turn) → StepEnsures w (t .call) (t .before) (t .result) (t .after) → view (t .result .walk) ≡ drawStep s (t .call) .state
+next-state s w e t k = ap (λ (z : Stepped). z .state) (k .stepped ∙ ap (λ (x : Drawn). drawStep x (t .call)) e)
 
-  -- one call, made or refused, and those after it
-  after-call : (o : Outcome) (m : Moves) (ms : List Moves) (r after : Reaches) (end : Cell) → Room asked r → length (m .olds) ≡ 6 → length (m .news) ≡ 6
-      → after ≡ ifMade o (crossed asked path (m .olds) (m .news) r) r → KeptFrom here ms (cellAt i after) end → KeptFrom here (ifMade o (m ∷ ms) ms) (cellAt i r) end
-  after-call made m ms r after end room n k e kept =
-      kept-more here m ms (cellAt i r) end n k
-      (subst (λ (x : Cell). KeptFrom here ms x end) (ap (cellAt i) e ∙ cell-below (λ j c. crossedFrom 0 (stationAt path j) (m .olds) (m .news) c) r asked i h room) kept)
-  after-call (refused x) m ms r after end room n k e kept = subst (λ (q : Reaches). KeptFrom here ms (cellAt i q) end) e kept
-  after-call (refusedAt x u) m ms r after end room n k e kept = subst (λ (q : Reaches). KeptFrom here ms (cellAt i q) end) e kept
+same-as-itself : {r : Reaches} → SameLengths r r
+same-as-itself = record { left = refl; right = refl; marks = refl }
 
-  -- room stays
-  room-after : (o : Outcome) (m : Moves) (r after : Reaches) → Room asked r → after ≡ ifMade o (crossed asked path (m .olds) (m .news) r) r → Room asked after
-  room-after made m r after room e = subst (Room asked) (sym e) (same-room (stations-lengths (λ j c. crossedFrom 0 (stationAt path j) (m .olds) (m .news) c) asked r) room)
-  room-after (refused x) m r after room e = subst (Room asked) (sym e) room
-  room-after (refusedAt x u) m r after room e = subst (Room asked) (sym e) room
+module _ (asked : ℕ) (path : PathRuns) where
+  -- either way each run keeps its length, so room stays
+  lengths-after : (o : Outcome) (m : Moves) (r after : Reaches) → after ≡ ifMade o (crossed asked path (m .olds) (m .news) r) r → SameLengths after r
+  lengths-after made m r after e = lengths-of (λ j c. crossedFrom 0 (stationAt path j) (m .olds) (m .news) c) asked r e
+  lengths-after (refused x) m r after e = rw e same-as-itself
+  lengths-after (refusedAt x u) m r after e = rw e same-as-itself
 
   -- what a made call does to the runs, in the drawn rig's words
   made-runs : (s : Drawn) (w : Walk) → view w ≡ s → (r : Reaches) (t : Turn) → StepEnsures w (t .call) (t .before) (t .result) (t .after) → t .before ≡ r → t .call ≡ callOf asked path r
@@ -78,17 +74,40 @@ module _ (asked : ℕ) (path : PathRuns) (i : ℕ) (h : i < asked) where
       by (refused n) q = refl
       by (refusedAt n u) q = refl
 
+  -- all calls
+  pub lengths-left : (s : Drawn) (w : Walk) → view w ≡ s → (r : Reaches) (ts : List Turn) → Chain w ts → MadeOver asked path r ts → SameLengths (runsLeft r ts) r
+  unfolding Chain MadeOver runsLeft
+  lengths-left s w e r [] k g = same-as-itself
+  lengths-left s w e r (t ∷ ts) k g =
+      let c = drawStep s (t .call) in
+      let rest = lengths-left (c .state) (t .result .walk) (next-state s w e t (k .0)) (leftBy r t) ts (k .1) (g .1) in
+      let here = lengths-after (c .answer) (movesIn s (t .call)) r (leftBy r t) (runs-after s w e r t (k .0) (g .0)) in
+      record { left = rest .left ∙ here .left; right = rest .right ∙ here .right; marks = rest .marks ∙ here .marks }
+
+-- a station
+module _ (asked : ℕ) (path : PathRuns) (i : ℕ) (h : i < asked) where
+  abbrev here : Station
+  here = stationAt path i
+
+  -- one call, made or refused, and those after it
+  pub after-call : (o : Outcome) (m : Moves) (ms : List Moves) (r after : Reaches) (end : Cell) → Room asked r → length (m .olds) ≡ 6 → length (m .news) ≡ 6
+      → after ≡ ifMade o (crossed asked path (m .olds) (m .news) r) r → KeptFrom here ms (cellAt i after) end → KeptFrom here (ifMade o (m ∷ ms) ms) (cellAt i r) end
+  after-call made m ms r after end room n k e kept =
+      kept-more here m ms (cellAt i r) end n k
+      (subst (λ (x : Cell). KeptFrom here ms x end) (ap (cellAt i) e ∙ cell-below (λ j c. crossedFrom 0 (stationAt path j) (m .olds) (m .news) c) r asked i h room) kept)
+  after-call (refused x) m ms r after end room n k e kept = subst (λ (q : Reaches). KeptFrom here ms (cellAt i q) end) e kept
+  after-call (refusedAt x u) m ms r after end room n k e kept = subst (λ (q : Reaches). KeptFrom here ms (cellAt i q) end) e kept
+
   pub walked : (s : Drawn) (w : Walk) → view w ≡ s → (r : Reaches) → Room asked r → (ts : List Turn) → Chain w ts → MadeOver asked path r ts
       → KeptFrom here (madeMoves s (map (λ (t : Turn). t .call) ts)) (cellAt i r) (cellAt i (runsLeft r ts))
   unfolding Chain MadeOver madeMoves runsLeft
   walked s w e r room [] k g = kept-none here (cellAt i r)
   walked s w e r room (t ∷ ts) k g =
       let m = movesIn s (t .call) in
-      let a = runs-after s w e r t (k .0) (g .0) in
+      let a = runs-after asked path s w e r t (k .0) (g .0) in
       let o = drawStep s (t .call) .answer in
-      let next = ap (λ (z : Stepped). z .state) (k .0 .stepped ∙ ap (λ (x : Drawn). drawStep x (t .call)) e) in
       after-call o m _ r (leftBy r t) _ room (six-points s (t .call)) (six-points (drawStep s (t .call) .state) (t .call)) a
-      (walked (drawStep s (t .call) .state) (t .result .walk) next (leftBy r t) (room-after o m r (leftBy r t) room a) ts (k .1) (g .1))
+      (walked (drawStep s (t .call) .state) (t .result .walk) (next-state s w e t (k .0)) (leftBy r t) (same-room (lengths-after asked path o m r (leftBy r t) a) room) ts (k .1) (g .1))
 
 -- a cleared mark has no bit
 no-bit : (p : ℕ) → hasBit p 0 ≡ false
@@ -104,7 +123,7 @@ unfolding placeRefusal
 placed-lent v c e = passed (lent c) (pathSound (c .asked) (c .path)) (vehicleSound v) e .0
 
 -- from a cleared cell
-from-cleared : (s : Station) (ms : List Moves) (c0 c : Cell) → c0 ≡ clearedCell → KeptFrom s ms c0 c → Kept s ms c
+pub from-cleared : (s : Station) (ms : List Moves) (c0 c : Cell) → c0 ≡ clearedCell → KeptFrom s ms c0 c → Kept s ms c
 from-cleared s ms c0 c e k =
     let bit : (p : ℕ) → p < 6 → hasBit p (c .mark) ≡ everCrossed p s ms =
     λ p l. k .bits p l ∙ ap (λ (x : Cell). everCrossed p s ms || hasBit p (x .mark)) e ∙ nothing-set p (everCrossed p s ms) in
@@ -146,6 +165,13 @@ module _ (h : History) (l : Lawful h) where
       let room = room-of (h .asked) (h .path) (h .before) call-lent in
       from-cleared _ _ _ _ (cleared-cell (h .asked) (h .before) (h .after) room clears i b)
       (walked (h .asked) (h .path) i b start (h .placing .walk) starts (h .after) (cleared-room (h .asked) (h .before) (h .after) room clears) (h .turns) (l .chain) (l .over))
+
+  -- the runs are lent to `widest` as they were to the placement
+  pub left-lent : lent (callOf (h .asked) (h .path) (runsOf h)) ≡ true
+  left-lent =
+      let a = lengths-left (h .asked) (h .path) start (h .placing .walk) starts (h .after) (h .turns) (l .chain) (l .over) in
+      let b = lengths-of (λ i c. clearedCell) (h .asked) (h .before) clears in
+      rw (same-call (h .asked) (h .path) a, same-call (h .asked) (h .path) b) call-lent
 
 -- a refused call
 left-as-was : (w : Walk) (t : Turn) → StepEnsures w (t .call) (t .before) (t .result) (t .after) → (outcomeOf (t .result .answer) ≡ made → ⊥) → t .after ≡ t .before

@@ -5,3 +5,7 @@ pub mod HistoryKept
 pub mod WholeRig
 pub mod RunFollows
 pub mod RunKept
+pub mod WidestKept
+pub mod RunWidest
+pub mod WorkedRun
+pub mod WidestLaws

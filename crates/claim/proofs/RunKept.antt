@@ -67,7 +67,7 @@ not-laid x h m laid t =
     not-zero x h m (q .0) (q .1)
 
 -- the widest place of runs that were lent
-read-off : (n : ℕ) (path : PathRuns) (r : Reaches) → lent (callOf n path r) ≡ true → answerOf (widestAmong sixPoints n r) ≡ widestAnswer sixPoints n r
+pub read-off : (n : ℕ) (path : PathRuns) (r : Reaches) → lent (callOf n path r) ≡ true → answerOf (widestAmong sixPoints n r) ≡ widestAnswer sixPoints n r
 unfolding lent widestLent widestAnswer
 read-off n path r l =
     let a = both (pathLent n path) (reachesLent n (lengthsOf r)) l in

@@ -60,6 +60,13 @@ unfoldable pub greatestOf : ℤ → List ℤ → ℤ
 greatestOf l [] = l
 greatestOf l (z ∷ zs) = greatestOf (greater l z) zs
 
+-- "the reaches at both ends of that move enter the station's left (smallest) and right (greatest)", which placement has cleared
+abbrev pub leftOf : Station → List Moves → ℤ
+leftOf s ms = leastOf (clearedCell .left) (entering s ms)
+
+abbrev pub rightOf : Station → List Moves → ℤ
+rightOf s ms = greatestOf (clearedCell .right) (entering s ms)
+
 -- the whole rig has crossed it: each of the six points has
 abbrev pub AllCrossed : Station → List Moves → Type 0
 AllCrossed s ms = (p : ℕ) → p < 6 → everCrossed p s ms ≡ true
@@ -67,8 +74,8 @@ AllCrossed s ms = (p : ℕ) → p < 6 → everCrossed p s ms ≡ true
 -- a cell that tells it all: a bit for each point that crossed, the least and the greatest of what entered; where nothing did, the cleared values; it is complete just where the whole rig has crossed
 pub record Kept (s : Station) (ms : List Moves) (c : Cell) : Type 0 where
   pub bits : (p : ℕ) → p < 6 → hasBit p (c .mark) ≡ everCrossed p s ms
-  pub left : c .left ≡ leastOf (clearedCell .left) (entering s ms)
-  pub right : c .right ≡ greatestOf (clearedCell .right) (entering s ms)
+  pub left : c .left ≡ leftOf s ms
+  pub right : c .right ≡ rightOf s ms
   pub whole : complete sixPoints c ≡ true → AllCrossed s ms
   pub onlyWhole : AllCrossed s ms → complete sixPoints c ≡ true
 
