@@ -10,35 +10,87 @@ use Rattle.job.specs.declared.Vehicle.{Vehicle}
 use Rattle.path.specs.declared.Station.{Station}
 use Rattle.path.specs.Laying.{PathRuns}
 use Rattle.walk.specs.declared.Walk.{Walk}
-use Rattle.walk.specs.Drawn.{Drawn, view, Call, stationAt, Outcome, made, refused, refusedAt}
+use Rattle.walk.specs.Drawn.{Drawn, view, Call, stationAt, Outcome, made, refused, refusedAt, outcomeOf}
 use Rattle.walk.specs.Rig.{Stepped, drawStep}
 use Rattle.points.specs.Points.{rigPoints}
 use Rattle.reaches.specs.declared.Cell.{Cell}
 use Rattle.reaches.specs.Cells.{Reaches, cellAt, clearedCell, cleared}
 use Rattle.reaches.specs.Crossing.{hasBit, crossedFrom, crossed}
 use Rattle.reaches.specs.Inner.{Room}
-use Rattle.reaches.proofs.CellLaws.{cell-below, stations-lengths, same-room}
+use Rattle.reaches.proofs.CellLaws.{SameLengths, cell-below, stations-lengths, lengths-of, same-room}
 use Rattle.walk.specs.Tests.{lent, pathSound, vehicleSound}
 use Rattle.walk.specs.Rig.{drawnStart}
 use Rattle.stations.proofs.Entering.{room-of}
 use Rattle.stations.specs.Placing.{callOf, placeRefusal, unlessRefused, startHeading}
+use Rattle.run.proofs.WalkingLaws.{same-call}
 use Rattle.claim.proofs.CallsKept.{none-refused, passed}
 use Rattle.stations.specs.Stepping.{pointsAt, ifMade, StepEnsures}
 use Rattle.claim.specs.DemandThree.{Turn, Chain}
-use Rattle.claim.specs.StationHistory.{Moves, movesIn, madeMoves, everCrossed, entering, leastOf, greatestOf, Kept, Handed, lastRuns, StationHistory}
+use Rattle.claim.specs.StationHistory.{Moves, movesIn, madeMoves, everCrossed, entering, leastOf, greatestOf, Kept, History, placeCall, leftBy, MadeOver, runsLeft, Lawful, movesOf, runsOf, StationHistory}
 use Rattle.claim.proofs.WholeRig.{all-set, set-all}
 use Rattle.claim.proofs.HistoryLaws.{KeptFrom, kept-none, kept-more}
+use Rattle.claim.proofs.Example.{example, example-lawful}
 
-six-points : (s : Drawn) (c : Call) → length (pointsAt s c) ≡ 6
+pub six-points : (s : Drawn) (c : Call) → length (pointsAt s c) ≡ 6
 unfolding rigPoints
 six-points s c = refl
 
+-- the record that a call leaves shows the drawn rig's next state
+next-state : (s : Drawn) (w : Walk) → view w ≡ s → (t : Turn) → StepEnsures w (t .call) (t .before) (t .result) (t .after) → view (t .result .walk) ≡ drawStep s (t .call) .state
+next-state s w e t k = ap (λ (z : Stepped). z .state) (k .stepped ∙ ap (λ (x : Drawn). drawStep x (t .call)) e)
+
+same-as-itself : {r : Reaches} → SameLengths r r
+same-as-itself = record { left = refl; right = refl; marks = refl }
+
+module _ (asked : ℕ) (path : PathRuns) where
+  -- either way each run keeps its length, so room stays
+  lengths-after : (o : Outcome) (m : Moves) (r after : Reaches) → after ≡ ifMade o (crossed asked path (m .olds) (m .news) r) r → SameLengths after r
+  lengths-after made m r after e = lengths-of (λ j c. crossedFrom 0 (stationAt path j) (m .olds) (m .news) c) asked r e
+  lengths-after (refused x) m r after e = rw e same-as-itself
+  lengths-after (refusedAt x u) m r after e = rw e same-as-itself
+
+  -- what a made call does to the runs, in the drawn rig's words
+  made-runs : (s : Drawn) (w : Walk) → view w ≡ s → (r : Reaches) (t : Turn) → StepEnsures w (t .call) (t .before) (t .result) (t .after) → t .before ≡ r → t .call ≡ callOf asked path r
+      → t .after ≡ ifMade (drawStep s (t .call) .answer) (crossed asked path (movesIn s (t .call) .olds) (movesIn s (t .call) .news) r) r
+  made-runs s w e r t k b c =
+      let f : Drawn → Call → Reaches → Reaches =
+      λ x y z. ifMade (drawStep x (t .call) .answer) (crossed (y .asked) (y .path) (pointsAt x (t .call)) (pointsAt (drawStep x (t .call) .state) (t .call)) z) z in
+      k .runs ∙ ap (λ (x : Drawn). f x (t .call) (t .before)) e ∙ ap (λ (y : Call). f s y (t .before)) c ∙ ap (f s (callOf asked path r)) b
+
+  -- and any call, made or refused
+  runs-after : (s : Drawn) (w : Walk) → view w ≡ s → (r : Reaches) (t : Turn) → StepEnsures w (t .call) (t .before) (t .result) (t .after)
+      → (outcomeOf (t .result .answer) ≡ made → (t .before ≡ r) × (t .call ≡ callOf asked path r))
+      → leftBy r t ≡ ifMade (drawStep s (t .call) .answer) (crossed asked path (movesIn s (t .call) .olds) (movesIn s (t .call) .news) r) r
+  runs-after s w e r t k g = by (outcomeOf (t .result .answer)) refl ∙ ap (λ (o : Outcome). ifMade o x r) same
+    where
+      x : Reaches
+      x = crossed asked path (movesIn s (t .call) .olds) (movesIn s (t .call) .news) r
+
+      same : outcomeOf (t .result .answer) ≡ drawStep s (t .call) .answer
+      same = ap (λ (z : Stepped). z .answer) (k .stepped) ∙ ap (λ (y : Drawn). drawStep y (t .call) .answer) e
+
+      by : (o : Outcome) → outcomeOf (t .result .answer) ≡ o → ifMade o (t .after) r ≡ ifMade o x r
+      by made q = made-runs s w e r t k (g q .0) (g q .1) ∙ ap (λ (o : Outcome). ifMade o x r) (sym same ∙ q)
+      by (refused n) q = refl
+      by (refusedAt n u) q = refl
+
+  -- all calls
+  pub lengths-left : (s : Drawn) (w : Walk) → view w ≡ s → (r : Reaches) (ts : List Turn) → Chain w ts → MadeOver asked path r ts → SameLengths (runsLeft r ts) r
+  unfolding Chain MadeOver runsLeft
+  lengths-left s w e r [] k g = same-as-itself
+  lengths-left s w e r (t ∷ ts) k g =
+      let c = drawStep s (t .call) in
+      let rest = lengths-left (c .state) (t .result .walk) (next-state s w e t (k .0)) (leftBy r t) ts (k .1) (g .1) in
+      let here = lengths-after (c .answer) (movesIn s (t .call)) r (leftBy r t) (runs-after s w e r t (k .0) (g .0)) in
+      record { left = rest .left ∙ here .left; right = rest .right ∙ here .right; marks = rest .marks ∙ here .marks }
+
+-- a station
 module _ (asked : ℕ) (path : PathRuns) (i : ℕ) (h : i < asked) where
   abbrev here : Station
   here = stationAt path i
 
   -- one call, made or refused, and those after it
-  after-call : (o : Outcome) (m : Moves) (ms : List Moves) (r after : Reaches) (end : Cell) → Room asked r → length (m .olds) ≡ 6 → length (m .news) ≡ 6
+  pub after-call : (o : Outcome) (m : Moves) (ms : List Moves) (r after : Reaches) (end : Cell) → Room asked r → length (m .olds) ≡ 6 → length (m .news) ≡ 6
       → after ≡ ifMade o (crossed asked path (m .olds) (m .news) r) r → KeptFrom here ms (cellAt i after) end → KeptFrom here (ifMade o (m ∷ ms) ms) (cellAt i r) end
   after-call made m ms r after end room n k e kept =
       kept-more here m ms (cellAt i r) end n k
@@ -46,31 +98,16 @@ module _ (asked : ℕ) (path : PathRuns) (i : ℕ) (h : i < asked) where
   after-call (refused x) m ms r after end room n k e kept = subst (λ (q : Reaches). KeptFrom here ms (cellAt i q) end) e kept
   after-call (refusedAt x u) m ms r after end room n k e kept = subst (λ (q : Reaches). KeptFrom here ms (cellAt i q) end) e kept
 
-  -- room stays
-  room-after : (o : Outcome) (m : Moves) (r after : Reaches) → Room asked r → after ≡ ifMade o (crossed asked path (m .olds) (m .news) r) r → Room asked after
-  room-after made m r after room e = subst (Room asked) (sym e) (same-room (stations-lengths (λ j c. crossedFrom 0 (stationAt path j) (m .olds) (m .news) c) asked r) room)
-  room-after (refused x) m r after room e = subst (Room asked) (sym e) room
-  room-after (refusedAt x u) m r after room e = subst (Room asked) (sym e) room
-
-  -- what a call does to the runs, in the drawn rig's words
-  runs-after : (s : Drawn) (w : Walk) → view w ≡ s → (r : Reaches) (t : Turn) → StepEnsures w (t .call) (t .before) (t .result) (t .after) → t .before ≡ r → t .call ≡ callOf asked path r
-      → t .after ≡ ifMade (drawStep s (t .call) .answer) (crossed asked path (movesIn s (t .call) .olds) (movesIn s (t .call) .news) r) r
-  runs-after s w e r t k b c =
-      let f : Drawn → Call → Reaches → Reaches =
-      λ x y z. ifMade (drawStep x (t .call) .answer) (crossed (y .asked) (y .path) (pointsAt x (t .call)) (pointsAt (drawStep x (t .call) .state) (t .call)) z) z in
-      k .runs ∙ ap (λ (x : Drawn). f x (t .call) (t .before)) e ∙ ap (λ (y : Call). f s y (t .before)) c ∙ ap (f s (callOf asked path r)) b
-
-  pub walked : (s : Drawn) (w : Walk) → view w ≡ s → (r : Reaches) → Room asked r → (ts : List Turn) → Chain w ts → Handed asked path r ts
-      → KeptFrom here (madeMoves s (map (λ (t : Turn). t .call) ts)) (cellAt i r) (cellAt i (lastRuns r ts))
-  unfolding Chain Handed madeMoves lastRuns
+  pub walked : (s : Drawn) (w : Walk) → view w ≡ s → (r : Reaches) → Room asked r → (ts : List Turn) → Chain w ts → MadeOver asked path r ts
+      → KeptFrom here (madeMoves s (map (λ (t : Turn). t .call) ts)) (cellAt i r) (cellAt i (runsLeft r ts))
+  unfolding Chain MadeOver madeMoves runsLeft
   walked s w e r room [] k g = kept-none here (cellAt i r)
   walked s w e r room (t ∷ ts) k g =
       let m = movesIn s (t .call) in
-      let a = runs-after s w e r t (k .0) (g .0) (g .1) in
+      let a = runs-after asked path s w e r t (k .0) (g .0) in
       let o = drawStep s (t .call) .answer in
-      let next = ap (λ (z : Stepped). z .state) (k .0 .stepped ∙ ap (λ (x : Drawn). drawStep x (t .call)) e) in
-      after-call o m _ r (t .after) _ room (six-points s (t .call)) (six-points (drawStep s (t .call) .state) (t .call)) a
-      (walked (drawStep s (t .call) .state) (t .result .walk) next (t .after) (room-after o m r (t .after) room a) ts (k .1) (g .2))
+      after-call o m _ r (leftBy r t) _ room (six-points s (t .call)) (six-points (drawStep s (t .call) .state) (t .call)) a
+      (walked (drawStep s (t .call) .state) (t .result .walk) (next-state s w e t (k .0)) (leftBy r t) (same-room (lengths-after asked path o m r (leftBy r t) a) room) ts (k .1) (g .1))
 
 -- a cleared mark has no bit
 no-bit : (p : ℕ) → hasBit p 0 ≡ false
@@ -85,25 +122,65 @@ placed-lent : (v : Vehicle) (c : Call) → placeRefusal v c ≡ 0 → lent c ≡
 unfolding placeRefusal
 placed-lent v c e = passed (lent c) (pathSound (c .asked) (c .path)) (vehicleSound v) e .0
 
-pub station-history : StationHistory
-station-history v w asked path before r after p placed ts chain handed i h =
-    let n = none-refused (placeRefusal v (callOf asked path before)) (sym (p .answered) ∙ placed) in
-    let s = drawnStart v (startHeading (callOf asked path before)) in
-    let room = room-of asked path before (placed-lent v (callOf asked path before) n) in
-    let e : view (r .walk) ≡ s = p .placed ∙ ap (λ (k : ℕ). unlessRefused k s (view w)) n in
-    let a : after ≡ cleared asked before = p .runs ∙ ap (λ (k : ℕ). unlessRefused k (cleared asked before) before) n in
-    let cell : cellAt i after ≡ clearedCell = ap (cellAt i) a ∙ cell-below (λ j c. clearedCell) before asked i h room in
-    let k = walked asked path i h s (r .walk) e after (subst (Room asked) (sym a) (same-room (stations-lengths (λ j c. clearedCell) asked before) room)) ts chain handed in
-    from-cleared _ _ _ _ cell k
+-- from a cleared cell
+pub from-cleared : (s : Station) (ms : List Moves) (c0 c : Cell) → c0 ≡ clearedCell → KeptFrom s ms c0 c → Kept s ms c
+from-cleared s ms c0 c e k =
+    let bit : (p : ℕ) → p < 6 → hasBit p (c .mark) ≡ everCrossed p s ms =
+    λ p l. k .bits p l ∙ ap (λ (x : Cell). everCrossed p s ms || hasBit p (x .mark)) e ∙ nothing-set p (everCrossed p s ms) in
+    record {
+      bits = bit;
+      left = k .left ∙ ap (λ (x : Cell). leastOf (x .left) (entering s ms)) e;
+      right = k .right ∙ ap (λ (x : Cell). greatestOf (x .right) (entering s ms)) e;
+      whole = λ w p l. sym (bit p l) ∙ set-all c w p l;
+      onlyWhole = λ a. all-set c (λ p l. bit p l ∙ a p l);
+    }
+
+-- runs that were cleared have room, and each station asked for is cleared
+module _ (asked : ℕ) (before after : Reaches) (room : Room asked before) (a : after ≡ cleared asked before) where
+  pub cleared-room : Room asked after
+  cleared-room = subst (Room asked) (sym a) (same-room (stations-lengths (λ j c. clearedCell) asked before) room)
+
+  pub cleared-cell : (i : ℕ) → i < asked → cellAt i after ≡ clearedCell
+  cleared-cell i h = ap (cellAt i) a ∙ cell-below (λ j c. clearedCell) before asked i h room
+
+-- an accepted placement: nothing refused it, so the record is the drawn rig's start and the runs are cleared
+module _ (h : History) (l : Lawful h) where
+  abbrev start : Drawn
+  start = drawnStart (h .vehicle) (startHeading (placeCall h))
+
+  none : placeRefusal (h .vehicle) (placeCall h) ≡ 0
+  none = none-refused (placeRefusal (h .vehicle) (placeCall h)) (sym (l .placement .answered) ∙ l .accepted)
+
+  pub call-lent : lent (placeCall h) ≡ true
+  call-lent = placed-lent (h .vehicle) (placeCall h) none
+
+  starts : view (h .placing .walk) ≡ start
+  starts = l .placement .placed ∙ ap (λ (k : ℕ). unlessRefused k start (view (h .walk))) none
+
+  pub clears : h .after ≡ cleared (h .asked) (h .before)
+  clears = l .placement .runs ∙ ap (λ (k : ℕ). unlessRefused k (cleared (h .asked) (h .before)) (h .before)) none
+
+  pub kept : (i : ℕ) → i < h .asked → Kept (stationAt (h .path) i) (movesOf h) (cellAt i (runsOf h))
+  kept i b =
+      let room = room-of (h .asked) (h .path) (h .before) call-lent in
+      from-cleared _ _ _ _ (cleared-cell (h .asked) (h .before) (h .after) room clears i b)
+      (walked (h .asked) (h .path) i b start (h .placing .walk) starts (h .after) (cleared-room (h .asked) (h .before) (h .after) room clears) (h .turns) (l .chain) (l .over))
+
+  -- the runs are lent to `widest` as they were to the placement
+  pub left-lent : lent (callOf (h .asked) (h .path) (runsOf h)) ≡ true
+  left-lent =
+      let a = lengths-left (h .asked) (h .path) start (h .placing .walk) starts (h .after) (h .turns) (l .chain) (l .over) in
+      let b = lengths-of (λ i c. clearedCell) (h .asked) (h .before) clears in
+      rw (same-call (h .asked) (h .path) a, same-call (h .asked) (h .path) b) call-lent
+
+-- a refused call
+left-as-was : (w : Walk) (t : Turn) → StepEnsures w (t .call) (t .before) (t .result) (t .after) → (outcomeOf (t .result .answer) ≡ made → ⊥) → t .after ≡ t .before
+left-as-was w t k n = k .runs ∙ by _ (drawStep (view w) (t .call) .answer) (ap (λ (z : Stepped). z .answer) (k .stepped))
   where
-    from-cleared : (s : Station) (ms : List Moves) (c0 c : Cell) → c0 ≡ clearedCell → KeptFrom s ms c0 c → Kept s ms c
-    from-cleared s ms c0 c e k =
-        let bit : (p : ℕ) → p < 6 → hasBit p (c .mark) ≡ everCrossed p s ms =
-        λ p l. k .bits p l ∙ ap (λ (x : Cell). everCrossed p s ms || hasBit p (x .mark)) e ∙ nothing-set p (everCrossed p s ms) in
-        record {
-          bits = bit;
-          left = k .left ∙ ap (λ (x : Cell). leastOf (x .left) (entering s ms)) e;
-          right = k .right ∙ ap (λ (x : Cell). greatestOf (x .right) (entering s ms)) e;
-          whole = λ w p l. sym (bit p l) ∙ set-all c w p l;
-          onlyWhole = λ a. all-set c (λ p l. bit p l ∙ a p l);
-        }
+    by : (x : Reaches) (o : Outcome) → outcomeOf (t .result .answer) ≡ o → ifMade o x (t .before) ≡ t .before
+    by x made q = absurd (n q)
+    by x (refused m) q = refl
+    by x (refusedAt m u) q = refl
+
+pub station-history : StationHistory
+station-history = record { kept = kept; left = left-as-was; some = (example, example-lawful, refl) }

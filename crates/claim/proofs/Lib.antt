@@ -1,6 +1,11 @@
+pub mod Example
 pub mod CallsKept
 pub mod HistoryLaws
 pub mod HistoryKept
 pub mod WholeRig
 pub mod RunFollows
 pub mod RunKept
+pub mod WidestKept
+pub mod RunWidest
+pub mod WorkedRun
+pub mod WidestLaws

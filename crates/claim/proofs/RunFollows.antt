@@ -23,8 +23,7 @@ use Rattle.stations.proofs.StepLaws.{refused-not-made, unit-not-made}
 use Rattle.run.specs.Walking.{Course, walkToEnd, courseOf, Going}
 use Rattle.run.proofs.WalkingLaws.{is-open, at-end, stopped-here, one-on, still-going, goes-on}
 use Rattle.claim.specs.DemandThree.{Turn, Chain}
-use Rattle.claim.specs.StationHistory.{Handed, lastRuns}
-use Rattle.claim.specs.WholeRun.{UntilRefused, lastAnswer}
+use Rattle.claim.specs.WholeRun.{Handed, lastRuns, UntilRefused, lastAnswer}
 
 -- how the last call answers where the walk ends so: at the last station by 25
 abbrev pub asCall : Outcome → Outcome

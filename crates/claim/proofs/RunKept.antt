@@ -39,8 +39,7 @@ use Rattle.run.proofs.CourseLaws.{course-lengths}
 use Rattle.run.proofs.OverLaws.{placed-going}
 use Rattle.run.proofs.RunLaws.{all-passed, runnable}
 use Rattle.claim.specs.DemandThree.{Turn, Chain}
-use Rattle.claim.specs.StationHistory.{Handed, lastRuns}
-use Rattle.claim.specs.WholeRun.{UntilRefused, lastAnswer, Told, Run, Ensured, Untouched, Followed, WholeRun}
+use Rattle.claim.specs.WholeRun.{Handed, lastRuns, UntilRefused, lastAnswer, Told, Run, Ensured, Untouched, Followed, WholeRun}
 use Rattle.claim.proofs.CallsKept.{none-refused, passed}
 use Rattle.claim.proofs.RunFollows.{asCall, Ended, calls-end}
 
@@ -68,7 +67,7 @@ not-laid x h m laid t =
     not-zero x h m (q .0) (q .1)
 
 -- the widest place of runs that were lent
-read-off : (n : ℕ) (path : PathRuns) (r : Reaches) → lent (callOf n path r) ≡ true → answerOf (widestAmong sixPoints n r) ≡ widestAnswer sixPoints n r
+pub read-off : (n : ℕ) (path : PathRuns) (r : Reaches) → lent (callOf n path r) ≡ true → answerOf (widestAmong sixPoints n r) ≡ widestAnswer sixPoints n r
 unfolding lent widestLent widestAnswer
 read-off n path r l =
     let a = both (pathLent n path) (reachesLent n (lengthsOf r)) l in

@@ -1,3 +1,5 @@
 pub mod DemandThree
 pub mod StationHistory
 pub mod WholeRun
+pub mod WorkedJob
+pub mod WidestHistory

@@ -11,7 +11,7 @@ use Rattle.job.specs.declared.Vehicle.{Vehicle}
 use Rattle.path.specs.declared.Station.{Station}
 use Rattle.path.specs.Laying.{PathRuns}
 use Rattle.walk.specs.declared.Walk.{Walk}
-use Rattle.walk.specs.Drawn.{Drawn, Call, stationAt}
+use Rattle.walk.specs.Drawn.{Drawn, Call, stationAt, Outcome, made, refused, refusedAt, outcomeOf}
 use Rattle.walk.specs.Rig.{zeroVector, drawnStart, drawStep}
 use Rattle.reaches.specs.declared.Cell.{Cell}
 use Rattle.reaches.specs.Cells.{Reaches, cellAt, clearedCell}
@@ -20,7 +20,7 @@ use Rattle.reaches.specs.Widest.{sixPoints, complete}
 use Rattle.stations.specs.declared.Placing.{Placing}
 use Rattle.stations.specs.declared.PlaceAnswer.the-variants as P
 use Rattle.stations.specs.Placing.{callOf, startHeading, PlaceEnsures}
-use Rattle.stations.specs.Stepping.{pointsAt, ifMade}
+use Rattle.stations.specs.Stepping.{pointsAt, ifMade, StepEnsures}
 use Rattle.claim.specs.DemandThree.{Turn, Chain}
 
 -- the points of the rig before and after a made step
@@ -60,6 +60,13 @@ unfoldable pub greatestOf : ℤ → List ℤ → ℤ
 greatestOf l [] = l
 greatestOf l (z ∷ zs) = greatestOf (greater l z) zs
 
+-- "the reaches at both ends of that move enter the station's left (smallest) and right (greatest)", which placement has cleared
+abbrev pub leftOf : Station → List Moves → ℤ
+leftOf s ms = leastOf (clearedCell .left) (entering s ms)
+
+abbrev pub rightOf : Station → List Moves → ℤ
+rightOf s ms = greatestOf (clearedCell .right) (entering s ms)
+
 -- the whole rig has crossed it: each of the six points has
 abbrev pub AllCrossed : Station → List Moves → Type 0
 AllCrossed s ms = (p : ℕ) → p < 6 → everCrossed p s ms ≡ true
@@ -67,25 +74,62 @@ AllCrossed s ms = (p : ℕ) → p < 6 → everCrossed p s ms ≡ true
 -- a cell that tells it all: a bit for each point that crossed, the least and the greatest of what entered; where nothing did, the cleared values; it is complete just where the whole rig has crossed
 pub record Kept (s : Station) (ms : List Moves) (c : Cell) : Type 0 where
   pub bits : (p : ℕ) → p < 6 → hasBit p (c .mark) ≡ everCrossed p s ms
-  pub left : c .left ≡ leastOf (clearedCell .left) (entering s ms)
-  pub right : c .right ≡ greatestOf (clearedCell .right) (entering s ms)
+  pub left : c .left ≡ leftOf s ms
+  pub right : c .right ≡ rightOf s ms
   pub whole : complete sixPoints c ≡ true → AllCrossed s ms
   pub onlyWhole : AllCrossed s ms → complete sixPoints c ≡ true
 
--- calls over one path, each handed the runs that the call before left
-unfoldable pub Handed : ℕ → PathRuns → Reaches → List Turn → Type 0
-Handed asked path r [] = Unit {0}
-Handed asked path r (t ∷ ts) = (t .before ≡ r) × (t .call ≡ callOf asked path r) × Handed asked path (t .after) ts
+-- a placement on a path and the step calls after it: what was handed over, what was answered and what the runs held
+pub record History : Type 0 where
+  pub vehicle : Vehicle
+  pub walk : Walk
+  pub asked : ℕ
+  pub path : PathRuns
+  pub before : Reaches
+  pub placing : Placing
+  pub after : Reaches
+  pub turns : List Turn
 
-unfoldable pub lastRuns : Reaches → List Turn → Reaches
-lastRuns r [] = r
-lastRuns r (t ∷ ts) = lastRuns (t .after) ts
+abbrev pub placeCall : History → Call
+placeCall h = callOf (h .asked) (h .path) (h .before)
 
--- the claim: after an accepted placement and any calls over its path, made or refused, every station of the path has kept just what the made steps gave it
-abbrev pub StationHistory : Type 0
-StationHistory =
-    (v : Vehicle) (w : Walk) (asked : ℕ) (path : PathRuns) (before : Reaches) (r : Placing) (after : Reaches)
-    → PlaceEnsures v w (callOf asked path before) before r after → r .answer ≡ P.Placed
-    → (ts : List Turn) → Chain (r .walk) ts → Handed asked path after ts
-    → (i : ℕ) → i < asked
-    → Kept (stationAt path i) (madeMoves (drawnStart v (startHeading (callOf asked path before))) (map (λ (t : Turn). t .call) ts)) (cellAt i (lastRuns after ts))
+-- the placement's runs after a call: as it left them where it was made, as they were where it was refused
+abbrev pub leftBy : Reaches → Turn → Reaches
+leftBy r t = ifMade (outcomeOf (t .result .answer)) (t .after) r
+
+-- every call that is made is over these stations and this path, and is handed the placement's runs as they were last left;
+-- one that is refused may bring anything: its own number of stations, its own path, its own runs
+unfoldable pub MadeOver : ℕ → PathRuns → Reaches → List Turn → Type 0
+MadeOver asked path r [] = Unit {0}
+MadeOver asked path r (t ∷ ts) =
+    (outcomeOf (t .result .answer) ≡ made → (t .before ≡ r) × (t .call ≡ callOf asked path r))
+    × MadeOver asked path (leftBy r t) ts
+
+unfoldable pub runsLeft : Reaches → List Turn → Reaches
+runsLeft r [] = r
+runsLeft r (t ∷ ts) = runsLeft (leftBy r t) ts
+
+-- the placement was accepted, each call's outcome is what `step` ensures at the record that the one before left, and those made are over the placement's path and runs
+pub record Lawful (h : History) : Type 0 where
+  pub placement : PlaceEnsures (h .vehicle) (h .walk) (placeCall h) (h .before) (h .placing) (h .after)
+  pub accepted : h .placing .answer ≡ P.Placed
+  pub chain : Chain (h .placing .walk) (h .turns)
+  pub over : MadeOver (h .asked) (h .path) (h .after) (h .turns)
+
+-- the moves of the drawn rig, fed all the calls, made or refused
+abbrev pub movesOf : History → List Moves
+movesOf h = madeMoves (drawnStart (h .vehicle) (startHeading (placeCall h))) (map (λ (t : Turn). t .call) (h .turns))
+
+-- the placement's runs after the last of them
+abbrev pub runsOf : History → Reaches
+runsOf h = runsLeft (h .after) (h .turns)
+
+abbrev pub answersOf : History → List Outcome
+answersOf h = map (λ (t : Turn). outcomeOf (t .result .answer)) (h .turns)
+
+-- the claim: after an accepted placement and any calls every station of its path has kept just what the made steps gave it;
+-- a refused call leaves the runs that it was lent, so those of the placement stay where it was lent them; and there are such calls, refused ones between made ones
+pub record StationHistory : Type 0 where
+  pub kept : (h : History) → Lawful h → (i : ℕ) → i < h .asked → Kept (stationAt (h .path) i) (movesOf h) (cellAt i (runsOf h))
+  pub left : (w : Walk) (t : Turn) → StepEnsures w (t .call) (t .before) (t .result) (t .after) → (outcomeOf (t .result .answer) ≡ made → ⊥) → t .after ≡ t .before
+  pub some : (h : History) × Lawful h × (answersOf h ≡ made ∷ refused 21 ∷ refused 26 ∷ made ∷ refused 27 ∷ refusedAt 22 1 ∷ made ∷ refused 25 ∷ [])

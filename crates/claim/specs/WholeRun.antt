@@ -17,7 +17,15 @@ use Rattle.run.specs.declared.Ran.{Ran}
 use Rattle.run.specs.declared.Ran.the-variants as R
 use Rattle.run.specs.Run.{finishAt, RunEnsures}
 use Rattle.claim.specs.DemandThree.{Turn, Chain}
-use Rattle.claim.specs.StationHistory.{Handed, lastRuns}
+
+-- calls over one path, each handed the runs that the call before left
+unfoldable pub Handed : ℕ → PathRuns → Reaches → List Turn → Type 0
+Handed asked path r [] = Unit {0}
+Handed asked path r (t ∷ ts) = (t .before ≡ r) × (t .call ≡ callOf asked path r) × Handed asked path (t .after) ts
+
+unfoldable pub lastRuns : Reaches → List Turn → Reaches
+lastRuns r [] = r
+lastRuns r (t ∷ ts) = lastRuns (t .after) ts
 
 -- step calls until one is refused: every call but the last is made
 unfoldable pub UntilRefused : List Turn → Type 0

@@ -2,13 +2,14 @@
 ghost use Rattle.claim.specs.DemandThree.{DemandThree};
 ghost use Rattle.claim.specs.StationHistory.{StationHistory};
 ghost use Rattle.claim.specs.WholeRun.{WholeRun};
+ghost use Rattle.claim.specs.WidestHistory.{WidestHistory};
 
 // Claim: over any list of step calls after an accepted placement the answers and the record are the drawn rig's, lengths never drift, and every drawn unit stays near the rigid one.
 pub fn demand_three()
     ensures { λ _. ⌜ DemandThree ⌝ }
 {}
 
-// Claim: after an accepted placement and any calls over its path, each station has a bit for just the points that crossed it in a made step, and the least and greatest of the reaches that entered.
+// Claim: after an accepted placement and any calls, refused ones of any kind among them, each station has a bit for just the points that crossed it in a made step, and the least and greatest of the reaches that entered.
 pub fn station_history()
     ensures { λ _. ⌜ StationHistory ⌝ }
 {}
@@ -16,4 +17,10 @@ pub fn station_history()
 // Claim: a whole job is laying, placing and step calls until one is refused: the seven runs, the answer, the steps counted and the step named.
 pub fn whole_run()
     ensures { λ _. ⌜ WholeRun ⌝ }
+{}
+
+// Claim: after an accepted placement and any calls, `widest` answers the station that the whole rig has crossed with the greatest right less left, the lowest number among equals, told from the drawn rig's moves;
+// 24 exactly where there is none, and nothing else; a finished run tells the same of its own walk.
+pub fn widest_history()
+    ensures { λ _. ⌜ WidestHistory ⌝ }
 {}

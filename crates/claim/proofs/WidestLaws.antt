@@ -1,0 +1,27 @@
+-- The claim about the widest place, and examples of what it speaks of.
+use Prim.Native.Nat.{ℕ}
+use mathlib.Core.Path.{refl, sym, _∙_, ap₂}
+use native.Mathlib.Omega.{arith}
+use lib.IntN.{ℤ, _-ℤ_}
+use Rattle.walk.specs.Drawn.{stationAt}
+use Rattle.reaches.specs.Cells.{cellAt}
+use Rattle.reaches.specs.Widest.{widestAmong, widestLent, widestAnswer}
+use Rattle.claim.specs.StationHistory.{runsLeft, Kept, movesOf, runsOf}
+use Rattle.claim.specs.WidestHistory.{WidestHistory}
+use Rattle.claim.proofs.Example.{example, example-lawful, noCalls, no-calls-lawful}
+use Rattle.claim.proofs.HistoryKept.{kept}
+use Rattle.claim.proofs.WidestKept.{asked-told}
+use Rattle.claim.proofs.RunWidest.{ran-told}
+use Rattle.claim.proofs.WorkedRun.{workedRun, worked-ensured}
+
+pub widest-history : WidestHistory
+unfolding runsLeft widestAmong widestLent widestAnswer
+widest-history =
+    let k : Kept (stationAt (example .path) 2) (movesOf example) (cellAt 2 (runsOf example)) = kept example example-lawful 2 (omega arith) in
+    record {
+      asked = asked-told;
+      ran = ran-told;
+      someTie = (example, example-lawful, refl, k .whole refl, sym (ap₂ (λ (x y : ℤ). x -ℤ y) (k .right) (k .left)));
+      someNone = (noCalls, no-calls-lawful, refl);
+      someRun = (workedRun, worked-ensured, refl, refl);
+    }
