@@ -4,3 +4,4 @@ pub mod HistoryKept
 pub mod WholeRig
 pub mod RunFollows
 pub mod RunKept
+pub mod LaidLaws

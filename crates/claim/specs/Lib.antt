@@ -1,3 +1,4 @@
 pub mod DemandThree
 pub mod StationHistory
 pub mod WholeRun
+pub mod LaidPasses

@@ -1,5 +1,6 @@
 // The claims about whole walks. The functions here run nothing; what they ensure is the claim.
 ghost use Rattle.claim.specs.DemandThree.{DemandThree};
+ghost use Rattle.claim.specs.LaidPasses.{LaidPasses};
 ghost use Rattle.claim.specs.StationHistory.{StationHistory};
 ghost use Rattle.claim.specs.WholeRun.{WholeRun};
 
@@ -16,4 +17,9 @@ pub fn station_history()
 // Claim: a whole job is laying, placing and step calls until one is refused: the seven runs, the answer, the steps counted and the step named.
 pub fn whole_run()
     ensures { λ _. ⌜ WholeRun ⌝ }
+{}
+
+// Claim: 26 never answers on what was laid: its stations pass the test that answers it, and no placement or step over them is refused by that number.
+pub fn laid_passes()
+    ensures { λ _. ⌜ LaidPasses ⌝ }
 {}
