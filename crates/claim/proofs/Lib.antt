@@ -5,3 +5,4 @@ pub mod WholeRig
 pub mod RunFollows
 pub mod RunKept
 pub mod LaidLaws
+pub mod NeverLaws

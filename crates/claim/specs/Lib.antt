@@ -2,3 +2,4 @@ pub mod DemandThree
 pub mod StationHistory
 pub mod WholeRun
 pub mod LaidPasses
+pub mod NeverWritten

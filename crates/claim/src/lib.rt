@@ -1,6 +1,7 @@
 // The claims about whole walks. The functions here run nothing; what they ensure is the claim.
 ghost use Rattle.claim.specs.DemandThree.{DemandThree};
 ghost use Rattle.claim.specs.LaidPasses.{LaidPasses};
+ghost use Rattle.claim.specs.NeverWritten.{NeverWritten};
 ghost use Rattle.claim.specs.StationHistory.{StationHistory};
 ghost use Rattle.claim.specs.WholeRun.{WholeRun};
 
@@ -22,4 +23,9 @@ pub fn whole_run()
 // Claim: 26 never answers on what was laid: its stations pass the test that answers it, and no placement or step over them is refused by that number.
 pub fn laid_passes()
     ensures { λ _. ⌜ LaidPasses ⌝ }
+{}
+
+// Claim: no step call touches the top two bits of a mark, which placement and a run clear; laying, placing, stepping and a run write no entry past the stations asked for, and every run keeps its length.
+pub fn never_written()
+    ensures { λ _. ⌜ NeverWritten ⌝ }
 {}
