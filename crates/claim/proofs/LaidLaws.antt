@@ -1,6 +1,6 @@
 -- What was laid passes the test that answers 26, and 26 is answered by nothing else.
-use Prim.Native.Nat.{ℕ, zero, suc, _+_, _≤_, _<_}
-use mathlib.Core.Path.{_≡_, refl, sym, _∙_, ap}
+use Prim.Native.Nat.{ℕ, _+_, _<_}
+use mathlib.Core.Path.{_≡_, sym, _∙_, ap}
 use mathlib.Core.Bool.{Bool, true, false}
 use mathlib.Core.List.{List, [], _∷_}
 use native.Mathlib.Omega.{arith}
@@ -10,8 +10,7 @@ use Rattle.plane.specs.Vector.{minus}
 use Rattle.job.specs.declared.Unit.{Unit as VehicleUnit}
 use Rattle.job.specs.declared.Vehicle.{Vehicle}
 use Rattle.unit.specs.Turn.{turnedBy, tooFar}
-use Rattle.path.specs.Laying.{PathRuns}
-use Rattle.walk.specs.Drawn.{Drawn, view, Call, stationAt, Outcome, made, refused, refusedAt, outcomeOf}
+use Rattle.walk.specs.Drawn.{Drawn, view, Call, stationAt}
 use Rattle.walk.specs.Tests.{lent, pathSound, stationSound, vehicleSound, recordSound, atLast}
 use Rattle.walk.specs.Units.{wheelbaseOf, hitchAt, Ahead, behind, foldKept, Turning, turned, stopped, onto, turnUnits}
 use Rattle.walk.specs.Rig.{Stepped, turningOf, afterTurning, turnedDown, drawStep}
@@ -19,7 +18,7 @@ use Rattle.walk.proofs.PathTests.{all-sound}
 use Rattle.stations.specs.declared.PlaceAnswer.the-variants as P
 use Rattle.stations.specs.Placing.{placeRefusal, placeAnswer}
 use Rattle.run.proofs.RunLaws.{laid-station}
-use Rattle.claim.specs.LaidPasses.{numberOf, OverLaid, Passes, LaidPasses}
+use Rattle.claim.specs.LaidPasses.{numberOf, OverLaid, LaidPasses}
 
 -- a unit stops the others by 22 or 23
 abbrev Not26 : Turning → Type 0

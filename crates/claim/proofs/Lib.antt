@@ -6,3 +6,7 @@ pub mod RunFollows
 pub mod RunKept
 pub mod LaidLaws
 pub mod NeverLaws
+pub mod CallsMade
+pub mod CallsThere
+pub mod RefusedThere
+pub mod CallsWitness

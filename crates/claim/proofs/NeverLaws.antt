@@ -4,10 +4,9 @@ use mathlib.Core.Path.{_≡_, refl, sym, _∙_, ap, subst}
 use mathlib.Core.List.{List, [], _∷_, map}
 use native.Mathlib.Omega.{arith}
 use native.Mathlib.Decide.{decLt}
-use lib.ListN.{length, getD, set, drop, length-set, length-map, List·getD-map}
-use lib.Seq.{sets, length-sets, drop-set-lt, map-set-same, getD-set-other}
+use lib.ListN.{length, getD, set, length-set, length-map, List·getD-map}
+use lib.Seq.{sets, drop-set-lt, map-set-same, getD-set-other}
 use lib.IntN.{ℤ}
-use Rattle.plane.specs.declared.Vec2.{Vec2}
 use Rattle.job.specs.declared.Job.{Job}
 use Rattle.job.specs.declared.Vehicle.{Vehicle}
 use Rattle.path.specs.declared.Station.{Station}
@@ -21,20 +20,19 @@ use Rattle.walk.specs.Drawn.{Drawn, view, Call, stationAt, Outcome, made, refus
 use Rattle.walk.specs.Rig.{drawStep}
 use Rattle.points.specs.Points.{rigPoints}
 use Rattle.reaches.specs.declared.Cell.{Cell}
-use Rattle.reaches.specs.Cells.{Reaches, cellAt, clearedCell, cleared, atStations}
+use Rattle.reaches.specs.Cells.{Reaches, cellAt, cleared, atStations}
 use Rattle.reaches.specs.Crossing.{crossed, crossedFrom}
 use Rattle.reaches.proofs.CrossingLaws.{step-top}
 use Rattle.stations.specs.declared.Placing.{Placing}
-use Rattle.stations.specs.declared.PlaceAnswer.the-variants as P
 use Rattle.stations.specs.Placing.{callOf, placeRefusal, unlessRefused, PlaceEnsures}
 use Rattle.stations.specs.Stepping.{pointsAt, ifMade, StepEnsures}
-use Rattle.run.specs.declared.Ran.{Ran}
 use Rattle.run.specs.declared.Ran.the-variants as R
 use Rattle.run.specs.Walking.{Course, walkOn}
-use Rattle.run.specs.Run.{ranAnswer, runRefusal, jobPath, jobCourse}
+use Rattle.run.specs.Run.{runRefusal, jobPath, jobCourse}
 use Rattle.claim.specs.WholeRun.{Run, Ensured}
 use Rattle.claim.specs.NeverWritten.{topTwoBits, PastKept, PathPastKept, ReachesPastKept, stationCount, StepNever, PlaceNever, RunNever, NeverWritten}
 use Rattle.claim.proofs.CallsKept.{none-refused}
+use Rattle.claim.proofs.CallsThere.{no-refusal}
 
 -- runs that stay, and that go on staying
 past-same : {A : Type 0} (n : ℕ) (l : List A) → PastKept n l l
@@ -194,13 +192,9 @@ module _ (x : Run) (h : Ensured x) where
   abbrev course : Course
   course = jobCourse (x .job) (x .path) (x .reaches)
 
-  no-refusal : (m : ℕ) (a b : Ran) → a ≡ ranAnswer m b → ((k : ℕ) → a ≡ R.Refused k → ⊥) → m ≡ 0
-  no-refusal zero a b e f = refl
-  no-refusal (suc m) a b e f = absurd (f (suc m) e)
-
   run-top : ((m : ℕ) → x .answer ≡ R.Refused m → ⊥) → (i : ℕ) → i < n → topTwoBits i (x .reachesLeft) ≡ 0
   run-top f i l =
-      let z : refusal ≡ 0 = no-refusal refusal (x .answer) _ (h .answered) f in
+      let z : refusal ≡ 0 = no-refusal (x .answer) _ refusal (h .answered) f in
       ap (topTwoBits i) (h .reaches ∙ ap (λ (m : ℕ). unlessRefused m (course .runs) (x .reaches)) z)
       ∙ along SameTop top-same top-then n (jobPath (x .job) (x .path)) (crossed-top n (jobPath (x .job) (x .path))) _ _ (cleared n (x .reaches)) i
       ∙ cleared-top n (x .reaches) i l

@@ -3,3 +3,4 @@ pub mod StationHistory
 pub mod WholeRun
 pub mod LaidPasses
 pub mod NeverWritten
+pub mod PremisesMet

@@ -2,6 +2,7 @@
 ghost use Rattle.claim.specs.DemandThree.{DemandThree};
 ghost use Rattle.claim.specs.LaidPasses.{LaidPasses};
 ghost use Rattle.claim.specs.NeverWritten.{NeverWritten};
+ghost use Rattle.claim.specs.PremisesMet.{PremisesMet};
 ghost use Rattle.claim.specs.StationHistory.{StationHistory};
 ghost use Rattle.claim.specs.WholeRun.{WholeRun};
 
@@ -28,4 +29,9 @@ pub fn laid_passes()
 // Claim: no step call touches the top two bits of a mark, which placement and a run clear; laying, placing, stepping and a run write no entry past the stations asked for, and every run keeps its length.
 pub fn never_written()
     ensures { λ _. ⌜ NeverWritten ⌝ }
+{}
+
+// Claim: what the claims over calls ask can be met: every entry answers whatever it is handed, any list of step calls can follow any record, the calls of a run that is not refused are there, and some have made steps and refused ones.
+pub fn premises_met()
+    ensures { λ _. ⌜ PremisesMet ⌝ }
 {}
