@@ -9,3 +9,9 @@ pub mod WidestKept
 pub mod RunWidest
 pub mod WorkedRun
 pub mod WidestLaws
+pub mod LaidLaws
+pub mod NeverLaws
+pub mod CallsMade
+pub mod CallsThere
+pub mod RefusedThere
+pub mod CallsWitness

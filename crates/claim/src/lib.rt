@@ -1,5 +1,8 @@
 // The claims about whole walks. The functions here run nothing; what they ensure is the claim.
 ghost use Rattle.claim.specs.DemandThree.{DemandThree};
+ghost use Rattle.claim.specs.LaidPasses.{LaidPasses};
+ghost use Rattle.claim.specs.NeverWritten.{NeverWritten};
+ghost use Rattle.claim.specs.PremisesMet.{PremisesMet};
 ghost use Rattle.claim.specs.StationHistory.{StationHistory};
 ghost use Rattle.claim.specs.WholeRun.{WholeRun};
 ghost use Rattle.claim.specs.WidestHistory.{WidestHistory};
@@ -23,4 +26,19 @@ pub fn whole_run()
 // 24 exactly where there is none, and nothing else; a finished run tells the same of its own walk.
 pub fn widest_history()
     ensures { λ _. ⌜ WidestHistory ⌝ }
+{}
+
+// Claim: 26 never answers on what was laid: its stations pass the test that answers it, and no placement or step over them is refused by that number.
+pub fn laid_passes()
+    ensures { λ _. ⌜ LaidPasses ⌝ }
+{}
+
+// Claim: no step call touches the top two bits of a mark, which placement and a run clear; laying, placing, stepping and a run write no entry past the stations asked for, and every run keeps its length.
+pub fn never_written()
+    ensures { λ _. ⌜ NeverWritten ⌝ }
+{}
+
+// Claim: what the claims over calls ask can be met: every entry answers whatever it is handed, any list of step calls can follow any record, the calls of a run that is not refused are there, and some have made steps and refused ones.
+pub fn premises_met()
+    ensures { λ _. ⌜ PremisesMet ⌝ }
 {}

@@ -84,7 +84,7 @@ all-passed j p r a b d = let z = eq-eqb (judge j) 0 a in rw (z, b, d) refl
 
 -- the path that was laid is sound, and the vehicle was tested with its job
 module _ (j : Job) (p : PathRuns) (m : ℕ) (q : PathRuns) (t : LayEnsures j p (L.Stations m) q) where
-  laid-station : (i : ℕ) → i < m → stationSound (stationAt q i) ≡ true
+  pub laid-station : (i : ℕ) → i < m → stationSound (stationAt q i) ≡ true
   laid-station i h =
       let k = path-in-runs j p m q t in
       let s = sound-path j (k .accepted) .sound i (omega (arith, k .count)) in
