@@ -26,7 +26,7 @@ pub enum PathTurn {
 }
 
 // g turned to the right by the half-angle tangent p / q.
-pub fn turn_heading(g: Vec2, p: i64, q: i64) -> Vec2
+fn turn_heading(g: Vec2, p: i64, q: i64) -> Vec2
     requires { ⌜ Tangent g p q ⌝ }
     ensures { λ r. ⌜ r ≡ turnedBy g p q ⌝ }
 {

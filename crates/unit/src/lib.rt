@@ -7,7 +7,7 @@ ghost use Rattle.unit.specs.Turn.{placedBy, turnedBy, tooFar, unitTurn, 
 ghost use Rattle.unit.specs.Coupling.{hitchOffset, foldAllowed, Hitched, Coupled, Scalable};
 ghost use Rattle.unit.specs.Construction.{Construction1988};
 
-pub mod mirror;
+mod mirror;
 
 // What the turn of a single unit answers: the new vector, or the number of the refusal.
 pub enum UnitTurn {

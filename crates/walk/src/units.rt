@@ -61,7 +61,7 @@ fn turn_next(
 }
 
 // The units in use, turned from the first, whose front point goes from old to new.
-pub fn turn_units(v: Vehicle, d: [Vec2; 4], old: Vec2, new: Vec2) -> UnitsTurned
+pub(crate) fn turn_units(v: Vehicle, d: [Vec2; 4], old: Vec2, new: Vec2) -> UnitsTurned
     requires { ⌜ UnitsReady v d old new ⌝ }
     ensures { λ r. ⌜ turningOf r ≡ turnUnits 1 none (unitsInUse v) d old new ⌝ }
 {
