@@ -6,6 +6,7 @@ use Rattle.exact.specs.Size.{Within}
 use Rattle.exact.specs.Nearest.{Divisor}
 use Rattle.plane.specs.declared.Vec2.{Vec2}
 use Rattle.plane.specs.Vector.{dot, times, nearestV}
+use Rattle.plane.specs.Wheelbase.{wheelbaseMost}
 use Rattle.unit.specs.Turn.{UnitSized}
 
 -- where the hitch lies from the rear axle, h ahead of it: nearest h × d / L
@@ -19,7 +20,7 @@ foldAllowed a d limit la ld = leZ (limit *ℤ la *ℤ ld) (pos 1000 *ℤ dot a d
 -- what a hitch asks
 pub record Hitched (d : Vec2) (h l : ℤ) : Type 0 where
   pub vector : UnitSized d
-  pub hitch : Within 200000 h
+  pub hitch : Within wheelbaseMost h
   pub wheelbase : Divisor l
 
 -- what the fold test asks
@@ -27,12 +28,12 @@ pub record Coupled (a d : Vec2) (limit la ld : ℤ) : Type 0 where
   pub ahead : UnitSized a
   pub behind : UnitSized d
   pub foldLimit : Within 1000 limit
-  pub wheelbaseAhead : Within 200000 la
-  pub wheelbaseBehind : Within 200000 ld
+  pub wheelbaseAhead : Within wheelbaseMost la
+  pub wheelbaseBehind : Within wheelbaseMost ld
 
 -- what a multiple of a vector, v × n / q, asks: a heading times a wheelbase, or a unit's vector times a hitch
 pub record Scalable (v : Vec2) (n q : ℤ) : Type 0 where
   pub x : Within 1000000 (v .x)
   pub y : Within 1000000 (v .y)
-  pub factor : Within 200000 n
+  pub factor : Within wheelbaseMost n
   pub divisor : Divisor q
