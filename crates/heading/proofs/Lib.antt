@@ -1,3 +1,4 @@
+pub mod Angle
 pub mod Rotation
 pub mod Arc
 pub mod Steering

@@ -1,33 +1,22 @@
 -- The turn by a half-angle tangent is an exact turn, so it keeps a heading's length; and nothing in it overflows.
-use mathlib.Core.Path.{_≡_}
 use mathlib.Core.List.{List, [], _∷_}
 use lib.Dec.{lit≤}
 use lib.IntN.{ℤ, pos, natAbs, _*ℤ_}
 use lib.Signed.{_≤ℤ_}
 use native.Mathlib.Omega.{arith}
 use Rattle.exact.specs.Size.{Within}
-use Rattle.exact.proofs.Polynomial.{_⊕_, _⊖_, _⊗_, _⊜_, neg, lit, var, ring4}
+use Rattle.exact.proofs.Polynomial.{_⊕_, _⊗_, neg, lit, var}
 use Rattle.exact.proofs.Order.{pos-≤, ≤-pos}
 use Rattle.exact.proofs.Certificate.{_⊞_, _⊠_, _·_, num, sq, hyp, le}
 use Rattle.exact.proofs.Sizes.{within}
 use Rattle.exact.proofs.Machine.{Bounded, none, _∷ᵇ_}
 use Rattle.plane.specs.declared.Vec2.{Vec2}
-use Rattle.plane.specs.Vector.{normSq}
 use Rattle.plane.specs.Length.{headingLength, Near, Nominal}
 use Rattle.plane.specs.Drawn.{Turned, Kept}
 use Rattle.plane.proofs.Lengths.{coordinates}
 use Rattle.plane.proofs.Keeping.{rule}
 use Rattle.heading.specs.Turn.{rotated, rotationScale, turnedBy, Tangent}
-
--- |(q² − p²)g + 2pq·n|² = (q² + p²)²|g|²
-rotation-exact : (g : Vec2) (p q : ℤ) → normSq (rotated g p q) ≡ rotationScale p q *ℤ rotationScale p q *ℤ normSq g
-rotation-exact g p q = ring4 (g .x) (g .y) p q (λ x y p q.
-    let a = q ⊗ q ⊖ p ⊗ p in
-    let b = lit 2 ⊗ p ⊗ q in
-    let n = q ⊗ q ⊕ p ⊗ p in
-    let u = x ⊗ a ⊕ y ⊗ b in
-    let v = y ⊗ a ⊕ neg x ⊗ b in
-    u ⊗ u ⊕ v ⊗ v ⊜ n ⊗ n ⊗ (x ⊗ x ⊕ y ⊗ y)) tt
+use Rattle.heading.proofs.Angle.{rotation-exact}
 
 pub scale-positive : (p q : ℤ) → pos 1 ≤ℤ q → pos 1 ≤ℤ rotationScale p q
 scale-positive p q h =

@@ -2,9 +2,9 @@
 use mathlib.Core.Path.{_≡_}
 use Prim.Native.Nat.{zero, suc}
 use lib.IntN.{ℤ, pos, negsuc, negℤ, natAbs, _+ℤ_, _-ℤ_, _*ℤ_}
-use lib.Signed.{_≤ℤ_}
+use lib.Signed.{_≤ℤ_, _<ℤ_}
 use Rattle.plane.specs.declared.Vec2.{Vec2}
-use Rattle.plane.specs.Vector.{plus, times, rightNormal, nearestV}
+use Rattle.plane.specs.Vector.{dot, normSq, plus, times, rightNormal, nearestV}
 use Rattle.plane.specs.Length.{headingLength, Near}
 use Rattle.plane.specs.Drawn.{drawn}
 
@@ -52,3 +52,15 @@ moveOf g g' s = nearestV (times (plus g g') s) (pos 2 *ℤ headingLength)
 -- the claim: an arc turns by the tangent s / (2|r|)
 abbrev pub ArcRule : Type 0
 ArcRule = (g : Vec2) (s : ℤ) (r : ℤ) → (r ≡ pos 0 → ⊥) → headingAfter g s r ≡ turnedBy g (tangentOf s r) (pos 2 *ℤ pos (natAbs r))
+
+-- what a half-angle tangent is, apart from the formula: w / S is g turned to the right by twice the angle with tangent p / q.
+-- With n the right-hand normal of g, w · n / (S|g|²) is the turn's sine and w · g / (S|g|²) its cosine; tan (half the angle) is sin / (1 + cos),
+-- so q sin = p (1 + cos). A half turn would meet that too, but its cosine is −1.
+pub record HalfAngle (g : Vec2) (p q : ℤ) (w : Vec2) (S : ℤ) : Type 0 where
+  pub length : normSq w ≡ S *ℤ S *ℤ normSq g
+  pub tangent : q *ℤ dot w (rightNormal g) ≡ p *ℤ (dot w g +ℤ S *ℤ normSq g)
+  pub short : pos 1 ≤ℤ q → pos 1 ≤ℤ normSq g → pos 0 <ℤ (dot w g +ℤ S *ℤ normSq g)
+
+-- the claim: the exact turn by p / q has that half-angle tangent
+abbrev pub TangentRule : Type 0
+TangentRule = (g : Vec2) (p q : ℤ) → HalfAngle g p q (rotated g p q) (rotationScale p q)

@@ -5,7 +5,7 @@ use number::Range;
 use plane::Vec2;
 ghost use mathlib.Core.Path.{_≡_};
 ghost use Rattle.job.specs.Curves.{radiusOf, radiusAllowed};
-ghost use Rattle.heading.specs.Turn.{turnedBy, Tangent, headingAfter, moveOf, ArcRule};
+ghost use Rattle.heading.specs.Turn.{turnedBy, Tangent, headingAfter, moveOf, ArcRule, TangentRule};
 ghost use Rattle.heading.specs.PathTurn.{advanceOf, pathTurn, Steerable, Movable};
 
 // The steps that the path turn takes by itself.
@@ -26,7 +26,7 @@ pub enum PathTurn {
 }
 
 // g turned to the right by the half-angle tangent p / q.
-pub fn turn_heading(g: Vec2, p: i64, q: i64) -> Vec2
+fn turn_heading(g: Vec2, p: i64, q: i64) -> Vec2
     requires { ⌜ Tangent g p q ⌝ }
     ensures { λ r. ⌜ r ≡ turnedBy g p q ⌝ }
 {
@@ -93,6 +93,11 @@ pub fn radius_of(curve: Curve) -> i64
         },
     }
 }
+
+// Claim: the exact turn by p / q keeps the length, and the tangent of half its angle is p / q.
+pub fn tangent_rule()
+    ensures { λ _. ⌜ TangentRule ⌝ }
+{}
 
 // Claim: on an arc the heading turns by the half-angle tangent s / (2|r|).
 pub fn arc_rule()

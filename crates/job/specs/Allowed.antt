@@ -5,6 +5,7 @@ use lib.IntN.{ℤ, pos, negsuc}
 use lib.Signed.{leZ}
 use Rattle.number.specs.Read.{pick}
 use Rattle.number.specs.Field.{within, sizeAtMost}
+use Rattle.plane.specs.Wheelbase.{isWheelbase}
 use Rattle.plane.specs.Length.{headingLength, hasLength}
 use Rattle.job.specs.declared.Curve.{Curve}
 use Rattle.job.specs.declared.Curve.the-variants.{Straight, Arc}
@@ -20,8 +21,9 @@ between least most = within (record { least = least; most = most })
 abbrev pub unitCountAllowed : ℕ → Bool
 unitCountAllowed = between 1 4
 
+-- "5,000 to 200,000", the range that the geometry of a unit has too
 abbrev pub wheelbaseAllowed : ℕ → Bool
-wheelbaseAllowed = between 5000 200000
+wheelbaseAllowed = isWheelbase
 
 -- "size at most that wheelbase; last unit 0"
 abbrev pub hitchMost : Bool → ℕ → ℕ

@@ -126,7 +126,7 @@ pub fn curve_allowed(curve: Curve) -> bool
     }
 }
 
-pub fn unit_allowed(first: bool, last: bool, u: Unit) -> bool
+fn unit_allowed(first: bool, last: bool, u: Unit) -> bool
     ensures { λ r. ⌜ r ≡ unitAllowed first last u ⌝ }
 {
     let wheelbase = u.wheelbase;
@@ -136,7 +136,7 @@ pub fn unit_allowed(first: bool, last: bool, u: Unit) -> bool
         & ((number::size_of(hitch) <= hitch_most(last, wheelbase)) & fold_allowed(first, fold))
 }
 
-pub fn widths_allowed(v: Vehicle) -> bool
+fn widths_allowed(v: Vehicle) -> bool
     ensures { λ r. ⌜ r ≡ widthsAllowed v ⌝ }
 {
     number::is_within(OVERHANG, v.overhang)
@@ -144,7 +144,7 @@ pub fn widths_allowed(v: Vehicle) -> bool
             & number::is_within(HALF_WIDTH, v.rear_half_width))
 }
 
-pub fn start_allowed(s: Start) -> bool
+fn start_allowed(s: Start) -> bool
     ensures { λ r. ⌜ r ≡ startAllowed s ⌝ }
 {
     let x = s.x;
@@ -155,7 +155,7 @@ pub fn start_allowed(s: Start) -> bool
         & ((number::size_of(y) <= COORDINATE) & heading_allowed(gx, gy))
 }
 
-pub fn element_allowed(e: Element) -> bool
+fn element_allowed(e: Element) -> bool
     ensures { λ r. ⌜ r ≡ elementAllowed e ⌝ }
 {
     let curve = e.curve;

@@ -5,7 +5,7 @@ ghost use mathlib.Core.Path.{_≡_};
 ghost use Rattle.job.specs.Faults.{unitsFault, elementsFault};
 ghost use Rattle.job.specs.Inner.{UnitsInUse, ElementsInUse};
 
-pub fn units_fault(units: [Unit; 4], count: usize) -> u8
+pub(crate) fn units_fault(units: [Unit; 4], count: usize) -> u8
     requires { ⌜ UnitsInUse count ⌝ }
     ensures { λ r. ⌜ r ≡ unitsFault count units ⌝ }
 {
@@ -21,7 +21,7 @@ pub fn units_fault(units: [Unit; 4], count: usize) -> u8
     0
 }
 
-pub fn elements_fault(elements: [Element; 64], count: usize, step: u32) -> u8
+pub(crate) fn elements_fault(elements: [Element; 64], count: usize, step: u32) -> u8
     requires { ⌜ ElementsInUse step count ⌝ }
     ensures { λ r. ⌜ r ≡ elementsFault step count elements ⌝ }
 {

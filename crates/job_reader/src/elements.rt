@@ -38,7 +38,7 @@ fn refused_start(w: Refusal) -> StartRead
 }
 
 // The heading is tested after gy; its refusal is placed at gx.
-pub fn read_start(s: &[u8], c: Cursor) -> StartRead
+pub(crate) fn read_start(s: &[u8], c: Cursor) -> StartRead
     ensures { λ r. ⌜ asStart r ≡ readStart (now (s .entry)) (c .at) ⌝ }
 {
     let a = number::read_sized(s, c, 6, job::COORDINATE);
@@ -173,7 +173,7 @@ fn refused_path(w: Refusal) -> PathRead
 }
 
 // The step and the elements, behind a vehicle and a start.
-pub fn read_path(s: &[u8], c: Cursor, vehicle: Vehicle, start: Start) -> PathRead
+pub(crate) fn read_path(s: &[u8], c: Cursor, vehicle: Vehicle, start: Start) -> PathRead
     ensures { λ r. ⌜ asJob r ≡ readPath vehicle start (now (s .entry)) (c .at) ⌝ }
 {
     let a = number::read_within(s, c, 7, job::STEP);

@@ -132,7 +132,7 @@ fn read_widths(s: &[u8], c: Cursor, count: usize, units: [Unit; 4]) -> VehicleRe
     }
 }
 
-pub fn read_vehicle(s: &[u8], c: Cursor) -> VehicleRead
+pub(crate) fn read_vehicle(s: &[u8], c: Cursor) -> VehicleRead
     ensures { λ r. ⌜ asVehicle r ≡ readVehicle (now (s .entry)) (c .at) ⌝ }
 {
     let a = number::read_within(s, c, 3, job::UNIT_COUNT);

@@ -143,7 +143,7 @@ fn put_path(e: Encoded, j: Job) -> Encoded
 }
 
 // A job without a fault, encoded.
-pub fn encode_job(j: Job) -> Encoded
+pub(crate) fn encode_job(j: Job) -> Encoded
     requires { ⌜ Accepted j ⌝ }
     ensures { λ r. ⌜ r ≡ appended nothing (writeJob j) ⌝ }
 {

@@ -145,7 +145,7 @@ pub fn is_within(range: Range, v: u32) -> bool
 }
 
 // The signed number that a field holds.
-pub fn signed_of(x: u32) -> i32
+fn signed_of(x: u32) -> i32
     ensures { λ r. ⌜ r ≡ signedOf x ⌝ }
 {
     let h = (x / 2) as i32;

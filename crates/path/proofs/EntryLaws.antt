@@ -11,8 +11,8 @@ use Rattle.job.specs.declared.Job.{Job}
 use Rattle.path.specs.declared.Station.{Station}
 use Rattle.path.specs.declared.Laid.the-variants as L
 use Rattle.path.specs.Stations.{stations}
-use Rattle.path.specs.Laying.{PathRuns, roomFor, written, LayEnsures}
-use Rattle.path.specs.LaidPath.{noStation, entryAt, PathInRuns}
+use Rattle.path.specs.Laying.{PathRuns, stationAt, roomFor, written, LayEnsures}
+use Rattle.path.specs.LaidPath.{noStation, PathInRuns}
 use Rattle.path.proofs.StoreLaws.{room}
 use Rattle.path.proofs.LayLaws.{SameLengths}
 use Rattle.path.proofs.JobLaws.{stations-answered}
@@ -45,7 +45,7 @@ module _ (f : Station → ℤ) (ps : List Station) (l : List ℤ) (i : ℕ) (fit
   coordinate-past z h = entry-past l vs z i (omega (arith, count)) (omega (arith, count))
 
 module _ (ps : List Station) (r : PathRuns) (fits : roomFor (length ps) r ≡ true) (i : ℕ) where
-  pub written-entry : i < length ps → entryAt (written ps r) i ≡ getD ps i noStation
+  pub written-entry : i < length ps → stationAt (written ps r) i ≡ getD ps i noStation
   written-entry h =
       let k = room (length ps) r fits in
       let x = coordinate-entry (λ (p : Station). p .position .x) ps (r .xs) i (k .0) noStation h in
@@ -54,7 +54,7 @@ module _ (ps : List Station) (r : PathRuns) (fits : roomFor (length ps) r ≡ tr
       let gy = coordinate-entry (λ (p : Station). p .heading .y) ps (r .gys) i (k .3) noStation h in
       λ t. record { position = record { x = x t; y = y t }; heading = record { x = gx t; y = gy t } }
 
-  pub written-past : length ps ≤ i → entryAt (written ps r) i ≡ entryAt r i
+  pub written-past : length ps ≤ i → stationAt (written ps r) i ≡ stationAt r i
   written-past h =
       let k = room (length ps) r fits in
       let x = coordinate-past (λ (p : Station). p .position .x) ps (r .xs) i (k .0) (pos 0) h in
@@ -73,6 +73,6 @@ path-in-runs j before n after t =
     record {
       accepted = s .0;
       count = s .2;
-      entries = λ i h. ap (λ (r : PathRuns). entryAt r i) (s .3) ∙ written-entry (stations j) before (s .1) i (omega (arith, s .2));
-      past = λ i h. ap (λ (r : PathRuns). entryAt r i) (s .3) ∙ written-past (stations j) before (s .1) i (omega (arith, s .2));
+      entries = λ i h. ap (λ (r : PathRuns). stationAt r i) (s .3) ∙ written-entry (stations j) before (s .1) i (omega (arith, s .2));
+      past = λ i h. ap (λ (r : PathRuns). stationAt r i) (s .3) ∙ written-past (stations j) before (s .1) i (omega (arith, s .2));
     }

@@ -191,9 +191,7 @@ module _ {step steps : ℕ} {es : List Element} {whole start : PathRuns} {c : Pa
       let b : 100000000 + 20000 * (i + 1) ≤ 150000000 = omega (arith, u .few) in
       record {
         room = room-for-fewer (i + 1 + 1) (steps + 1) r start (l .lengths) (omega arith) h;
-        x = within-more b (place-next .0);
-        y = within-more b (place-next .1);
-        heading = laying-next .heading;
+        station = record { x = within-more b (place-next .0); y = within-more b (place-next .1); heading = laying-next .heading };
       }
 
 -- before the first step

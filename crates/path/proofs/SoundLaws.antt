@@ -13,7 +13,6 @@ use Rattle.exact.specs.Size.{Within}
 use Rattle.exact.proofs.Sizes.{within-more}
 use Rattle.number.proofs.FieldCodec.{both}
 use Rattle.plane.specs.Length.{headingLength, Near}
-use Rattle.plane.proofs.Lengths.{of-near}
 use Rattle.job.specs.declared.Curve.{Curve}
 use Rattle.job.specs.declared.Element.{Element}
 use Rattle.job.specs.declared.Job.{Job}
@@ -25,7 +24,8 @@ use Rattle.path.specs.declared.Station.{Station}
 use Rattle.path.specs.Cuts.{Cut, cut, fullSteps, shorterStep, cutsFrom, cuts}
 use Rattle.path.specs.Stations.{Step, stepsOn, nextStation, stationsFrom, startStation, stations}
 use Rattle.path.specs.Cursor.{Reachable}
-use Rattle.path.specs.LaidPath.{SoundStation, SoundPath, noStation}
+use Rattle.path.specs.Laying.{SoundStation}
+use Rattle.path.specs.LaidPath.{SoundPath, noStation}
 use Rattle.path.proofs.StationLaws.{heading-kept, position-within}
 use Rattle.path.proofs.TotalLaws.{total-count}
 use Rattle.path.proofs.JobLaws.{total-allowed, start-sound, stations-length, stations-count}
@@ -76,7 +76,7 @@ steps-passable step t (e ∷ es) l m h =
 -- stations from p on, whose coordinates are within b
 module _ (p : Station) (b : ℕ) (heading : Near (p .heading) headingLength (pos 2 *ℤ headingLength)) (place : Within b (p .position .x) × Within b (p .position .y)) where
   sound-here : b ≤ 150000000 → SoundStation p
-  sound-here h = record { x = within-more h (place .0); y = within-more h (place .1); heading = of-near (p .heading) headingLength heading }
+  sound-here h = record { x = within-more h (place .0); y = within-more h (place .1); heading = heading }
 
   reachable-from : (s : Step) → Passable s → b ≤ 150000000 → Reachable p (s .curve) (s .cut .length)
   reachable-from s a h =

@@ -8,17 +8,17 @@ use lib.Dec.{lit≤}
 use lib.IntN.{ℤ, pos, negsuc, _*ℤ_}
 use lib.Signed.{leZ-yes}
 use lib.ListN.{set, take, getD}
-use Rattle.plane.specs.Length.{headingLength, Near}
+use Rattle.plane.specs.Length.{headingLength, hasLength, Near}
 use Rattle.job.specs.declared.Curve.the-variants.{Arc}
 use Rattle.job.specs.declared.Side.the-variants.{Left}
 use Rattle.job.specs.declared.Element.{Element}
-use Rattle.job.specs.Allowed.{elementAllowed}
+use Rattle.job.specs.Allowed.{headingAllowed, startAllowed, elementAllowed}
 use Rattle.job.specs.Empty.{emptyElement, emptyElements}
 use Rattle.path.specs.declared.Station.{Station}
 use Rattle.path.specs.declared.PathCursor.{PathCursor}
 use Rattle.path.specs.Stations.{stepTotal}
 use Rattle.path.specs.Cursor.{Reachable, OnElement}
-use Rattle.path.specs.Laying.{PathRuns, pathRuns, Accepted, Storable, Layable}
+use Rattle.path.specs.Laying.{PathRuns, pathRuns, Accepted, Storable, startAt, Layable}
 
 abbrev corner : Station
 corner = record { position = record { x = pos 100000000; y = negsuc 99999999 }; heading = record { x = pos 0; y = pos 1000000 } }
@@ -75,14 +75,16 @@ abbrev runs : PathRuns
 runs = pathRuns three three three three
 
 storable-met : Storable 2 corner runs
-storable-met = record { room = refl; x = record { size = lit≤ tt }; y = record { size = lit≤ tt }; heading = north }
+storable-met = record { room = refl; station = record { x = record { size = lit≤ tt }; y = record { size = lit≤ tt }; heading = north } }
+
+north-start : startAllowed (startAt corner) ≡ true
+unfolding headingAllowed hasLength
+north-start = refl
 
 layable-met : Layable 20000 1 2 elements corner runs
 layable-met = record {
   accepted = accepted-met;
   counted = sym steps;
   room = refl;
-  x = record { size = lit≤ tt };
-  y = record { size = lit≤ tt };
-  heading = north;
+  start = north-start;
 }

@@ -11,8 +11,9 @@ use Rattle.exact.specs.Size.{Within}
 use Rattle.number.specs.Read.{pick}
 use Rattle.plane.specs.Length.{headingLength, Near}
 use Rattle.job.specs.declared.Element.{Element}
+use Rattle.job.specs.declared.Start.{Start}
 use Rattle.job.specs.declared.Job.{Job}
-use Rattle.job.specs.Allowed.{elementAllowed}
+use Rattle.job.specs.Allowed.{startAllowed, elementAllowed}
 use Rattle.job.specs.Empty.{emptyElement}
 use Rattle.job.specs.Faults.{judge}
 use Rattle.path.specs.declared.Station.{Station}
@@ -29,6 +30,19 @@ pub record PathRuns : Type 0 where
 
 abbrev pub pathRuns : List ℤ → List ℤ → List ℤ → List ℤ → PathRuns
 pathRuns a b c d = record { xs = a; ys = b; gxs = c; gys = d }
+
+-- the station that entry i of the four runs holds
+abbrev pub stationAt : PathRuns → ℕ → Station
+stationAt r i = record {
+  position = record { x = getD (r .xs) i (pos 0); y = getD (r .ys) i (pos 0) };
+  heading = record { x = getD (r .gxs) i (pos 0); y = getD (r .gys) i (pos 0) };
+}
+
+-- what a path entry in use must be, or 26 is answered (01, "Why a walk is turned down")
+pub record SoundStation (p : Station) : Type 0 where
+  pub x : Within 150000000 (p .position .x)
+  pub y : Within 150000000 (p .position .y)
+  pub heading : Near (p .heading) headingLength (pos 2 *ℤ headingLength)
 
 -- each run has room for n entries
 abbrev pub roomFor : ℕ → PathRuns → Bool
@@ -79,18 +93,18 @@ pub record Accepted (step count : ℕ) (es : List Element) : Type 0 where
 -- what writing a station asks
 pub record Storable (i : ℕ) (p : Station) (r : PathRuns) : Type 0 where
   pub room : roomFor (i + 1) r ≡ true
-  pub x : Within 150000000 (p .position .x)
-  pub y : Within 150000000 (p .position .y)
-  pub heading : Near (p .heading) headingLength (pos 2 *ℤ headingLength)
+  pub station : SoundStation p
 
--- what laying asks: elements that were let pass, as many steps as they have, a sound start and room for every station
+-- the start that a station is
+abbrev pub startAt : Station → Start
+startAt p = record { x = p .position .x; y = p .position .y; gx = p .heading .x; gy = p .heading .y }
+
+-- what laying asks: elements that were let pass, as many steps as they have, a start that was let pass and room for every station
 pub record Layable (step count steps : ℕ) (es : List Element) (p : Station) (r : PathRuns) : Type 0 where
   pub accepted : Accepted step count es
   pub counted : steps ≡ stepTotal step 0 (take count es)
   pub room : roomFor (steps + 1) r ≡ true
-  pub x : Within 100000000 (p .position .x)
-  pub y : Within 100000000 (p .position .y)
-  pub heading : Near (p .heading) headingLength (pos 2 *ℤ headingLength)
+  pub start : startAllowed (startAt p) ≡ true
 
 -- the stations from a start, over the elements in use
 abbrev pub stationsOver : ℕ → ℕ → List Element → Station → List Station

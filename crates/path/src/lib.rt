@@ -52,7 +52,7 @@ fn next_station(p: Station, curve: Curve, s: u32) -> Station
 }
 
 // One step on, along the element that the cursor is on.
-pub fn next_cursor(c: PathCursor, e: Element, step: u32) -> PathCursor
+fn next_cursor(c: PathCursor, e: Element, step: u32) -> PathCursor
     requires { ⌜ OnElement step e c ⌝ }
     ensures { λ r. ⌜ r ≡ cursorAfter step e c ⌝ }
 {

@@ -12,8 +12,8 @@ use Rattle.path.specs.declared.Station.{Station}
 use Rattle.path.specs.declared.Laid.{Laid}
 use Rattle.path.specs.declared.Laid.the-variants as L
 use Rattle.path.specs.Stations.{stations}
-use Rattle.path.specs.Laying.{PathRuns, layAnswer, laidRuns, LayEnsures}
-use Rattle.path.specs.LaidPath.{stationAt, entryAt}
+use Rattle.path.specs.Laying.{PathRuns, stationAt, layAnswer, laidRuns, LayEnsures}
+use Rattle.path.specs.LaidPath.{jobStation}
 use Rattle.path.proofs.StoreLaws.{room}
 use Rattle.path.proofs.LayLaws.{SameLengths}
 use Rattle.path.proofs.JobLaws.{stations-count, stations-answered}
@@ -35,7 +35,7 @@ module _ (j : Job) (r : PathRuns) (n : ℕ) (q : PathRuns) (t : LayEnsures j r (
 
   pub end-read : record { stations = n; position = record { x = getD (q .xs) (n - 1) (pos 0); y = getD (q .ys) (n - 1) (pos 0) } } ≡ endOf j (layAnswer j r)
   end-read =
-      let e : entryAt q (n - 1) ≡ stationAt j (n - 1) = path-in-runs j r n q t .entries (n - 1) (omega (arith, some)) in
+      let e : stationAt q (n - 1) ≡ jobStation j (n - 1) = path-in-runs j r n q t .entries (n - 1) (omega (arith, some)) in
       ap (λ (z : Station). record { stations = n; position = z .position }) e ∙ ap (endOf j) (t .answered)
 
 -- where a path ends can be measured from

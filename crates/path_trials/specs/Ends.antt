@@ -5,12 +5,12 @@ use Rattle.plane.specs.declared.Vec2.{Vec2}
 use Rattle.job.specs.declared.Job.{Job}
 use Rattle.path.specs.declared.Laid.{Laid}
 use Rattle.path.specs.declared.Laid.the-variants as L
-use Rattle.path.specs.LaidPath.{noStation, stationAt}
+use Rattle.path.specs.LaidPath.{noStation, jobStation}
 use Rattle.path_trials.specs.declared.PathEnd.{PathEnd}
 
 -- what laying answered, and the place of the last station; a refused job has neither
 abbrev pub endOf : Job → Laid → PathEnd
-endOf j (L.Stations n) = record { stations = n; position = stationAt j (n - 1) .position }
+endOf j (L.Stations n) = record { stations = n; position = jobStation j (n - 1) .position }
 endOf j (L.Refused n) = record { stations = 0; position = noStation .position }
 
 -- the number of a refusal

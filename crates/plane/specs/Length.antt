@@ -4,6 +4,7 @@ use lib.IntN.{ℤ, pos, _+ℤ_, _-ℤ_, _*ℤ_}
 use lib.Signed.{_≤ℤ_, leZ}
 use Rattle.plane.specs.declared.Vec2.{Vec2}
 use Rattle.plane.specs.Vector.{normSq}
+use Rattle.plane.specs.Wheelbase.{wheelbaseLeast}
 
 -- N, the nominal length of a heading
 abbrev pub headingLength : ℤ
@@ -18,7 +19,7 @@ pub record Near (v : Vec2) (k e : ℤ) : Type 0 where
   pub low : (k *ℤ k -ℤ e) ≤ℤ normSq v
   pub high : normSq v ≤ℤ (k *ℤ k +ℤ e)
 
--- the lengths in use: wheelbases from 5,000 to 200,000 and the headings' 1,000,000
+-- the lengths in use: wheelbases, and the headings' N, which is longer than any
 pub record Nominal (k : ℤ) : Type 0 where
-  pub least : pos 5000 ≤ℤ k
-  pub most : k ≤ℤ pos 1000000
+  pub least : pos wheelbaseLeast ≤ℤ k
+  pub most : k ≤ℤ headingLength

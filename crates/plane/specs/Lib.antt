@@ -1,4 +1,5 @@
 pub mod Vector
+pub mod Wheelbase
 pub mod Length
 pub mod Settle
 pub mod Drawn

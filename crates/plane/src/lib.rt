@@ -3,7 +3,7 @@ ghost use mathlib.Core.Path.{_≡_};
 ghost use lib.IntN.{pos};
 ghost use lib.ListN.{length, getD, set};
 ghost use Rattle.exact.specs.Nearest.{Divisor};
-ghost use Rattle.plane.specs.Vector.{dot as dotZ, plus as plusZ, minus as minusZ, rightNormal, nearestV, Moderate, BothModerate};
+ghost use Rattle.plane.specs.Vector.{dot as dotZ, plus as plusZ, minus as minusZ, nearestV, BothModerate};
 ghost use Rattle.plane.specs.Length.{hasLength, Nominal};
 ghost use Rattle.plane.specs.Settle.{settleZ, Settleable};
 ghost use Rattle.plane.specs.Drawn.{drawn, Drawable, DrawnRule};
@@ -51,15 +51,6 @@ pub fn minus(a: Vec2, b: Vec2) -> Vec2
         x: ax - bx,
         y: ay - by,
     }
-}
-
-pub fn right_normal(v: Vec2) -> Vec2
-    requires { ⌜ Moderate v ⌝ }
-    ensures { λ r. ⌜ r ≡ rightNormal v ⌝ }
-{
-    let x = v.x;
-    let y = v.y;
-    Vec2 { x: y, y: -x }
 }
 
 // v / d, nearest by coordinate.

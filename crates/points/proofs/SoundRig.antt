@@ -7,7 +7,7 @@ use Rattle.job.specs.declared.Vehicle.{Vehicle}
 use Rattle.path.specs.declared.Station.{Station}
 use Rattle.walk.specs.Tests.{vehicleSound}
 use Rattle.walk.specs.Inner.{RigReady}
-use Rattle.walk.specs.TestRequires.{SoundStation}
+use Rattle.path.specs.Laying.{SoundStation}
 use Rattle.walk.proofs.VehicleTests.{overhang-most, front-bounds, rear-bounds}
 use Rattle.points.specs.Requires.{BodySized, RigAt}
 

@@ -71,7 +71,7 @@ const ROWS: [Row; POINT_COUNT] = [
 ];
 
 // The front point of the first unit.
-pub fn front_end(v: Vehicle, d: [Vec2; 4], front: Vec2) -> End
+fn front_end(v: Vehicle, d: [Vec2; 4], front: Vec2) -> End
     requires { ⌜ RigAt v d front ⌝ }
     ensures { λ r. ⌜ r ≡ frontOf v d front ⌝ }
 {
@@ -85,7 +85,7 @@ pub fn front_end(v: Vehicle, d: [Vec2; 4], front: Vec2) -> End
 }
 
 // The rear axle of the last unit, hitch by hitch from the front point of the first.
-pub fn rear_end(v: Vehicle, d: [Vec2; 4], front: Vec2) -> End
+fn rear_end(v: Vehicle, d: [Vec2; 4], front: Vec2) -> End
     requires { ⌜ RigAt v d front ⌝ }
     ensures { λ r. ⌜ r ≡ rearOf v d front ⌝ }
 {

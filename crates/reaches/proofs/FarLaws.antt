@@ -21,7 +21,7 @@ use Rattle.plane.specs.declared.Vec2.{Vec2}
 use Rattle.plane.specs.Length.{headingLength}
 use Rattle.plane.proofs.Lengths.{coordinates}
 use Rattle.path.specs.declared.Station.{Station}
-use Rattle.walk.specs.TestRequires.{SoundStation}
+use Rattle.path.specs.Laying.{SoundStation}
 use Rattle.walk.specs.Rig.{zeroVector}
 use Rattle.reaches.specs.Crossing.{aheadOf, crosses, someCrosses, greater}
 use Rattle.reaches.specs.Inner.{SizedPoint}

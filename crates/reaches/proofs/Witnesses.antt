@@ -9,10 +9,9 @@ use lib.IntN.{ℤ, pos, negsuc}
 use lib.Signed.{_≤ℤ_, leZ-yes}
 use Rattle.plane.specs.declared.Vec2.{Vec2}
 use Rattle.path.specs.declared.Station.{Station}
-use Rattle.path.specs.Laying.{PathRuns}
+use Rattle.path.specs.Laying.{PathRuns, SoundStation}
 use Rattle.walk.specs.Drawn.{stationAt}
 use Rattle.walk.specs.Rig.{zeroVector}
-use Rattle.walk.specs.TestRequires.{SoundStation}
 use Rattle.reaches.specs.Cells.{Reaches}
 use Rattle.reaches.specs.Inner.{Room, SizedPoint, Measurable, Movable, PointNumber, Numbered, SixMoves, Crossable}
 use Rattle.reaches.specs.Far.{apart, Spread, Sized, BothSized, SixSized, Measured, AtStation}

@@ -8,9 +8,8 @@ use lib.IntN.{ℤ, pos}
 use Rattle.exact.specs.Size.{Within}
 use Rattle.plane.specs.declared.Vec2.{Vec2}
 use Rattle.path.specs.declared.Station.{Station}
-use Rattle.path.specs.Laying.{PathRuns, roomFor}
+use Rattle.path.specs.Laying.{PathRuns, SoundStation, roomFor}
 use Rattle.walk.specs.Drawn.{stationAt}
-use Rattle.walk.specs.TestRequires.{SoundStation}
 use Rattle.walk.specs.Rig.{zeroVector}
 use Rattle.reaches.specs.Cells.{Reaches}
 

@@ -7,7 +7,7 @@ ghost use Rattle.reaches.specs.Crossing.{aheadOf, reachOf, crosses, smal
 ghost use Rattle.reaches.specs.Inner.{Measurable, Movable, PointNumber, Numbered, SixMoves};
 
 // How far ahead of a station a point lies, times the heading's length.
-pub fn ahead_of(s: Station, a: Vec2) -> i64
+pub(crate) fn ahead_of(s: Station, a: Vec2) -> i64
     requires { ⌜ Measurable s a ⌝ }
     ensures { λ r. ⌜ r ≡ aheadOf s a ⌝ }
 {
@@ -98,7 +98,7 @@ fn crossed_cell(p: usize, s: Station, old: Vec2, new: Vec2, c: Cell) -> Cell
 }
 
 // The same after the moves of all points.
-pub fn crossed_by_all(s: Station, olds: [Vec2; 6], news: [Vec2; 6], c: Cell) -> Cell
+pub(crate) fn crossed_by_all(s: Station, olds: [Vec2; 6], news: [Vec2; 6], c: Cell) -> Cell
     requires { ⌜ SixMoves s olds news ⌝ }
     ensures { λ r. ⌜ r ≡ crossedFrom 0 s olds news c ⌝ }
 {
@@ -114,7 +114,7 @@ pub fn crossed_by_all(s: Station, olds: [Vec2; 6], news: [Vec2; 6], c: Cell) -> 
 }
 
 // Whether any point crosses a station. Apart from what a crossing does, so that nothing is copied at the many stations that none crosses.
-pub fn some_crosses(s: Station, olds: [Vec2; 6], news: [Vec2; 6]) -> bool
+pub(crate) fn some_crosses(s: Station, olds: [Vec2; 6], news: [Vec2; 6]) -> bool
     requires { ⌜ SixMoves s olds news ⌝ }
     ensures { λ r. ⌜ r ≡ someCrosses s olds news ⌝ }
 {

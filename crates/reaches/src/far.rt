@@ -32,7 +32,7 @@ fn greater(a: i64, b: i64) -> i64
 }
 
 // As far as any point lies from the first, before the step and after it.
-pub fn spread(olds: [Vec2; 6], news: [Vec2; 6]) -> i64
+pub(crate) fn spread(olds: [Vec2; 6], news: [Vec2; 6]) -> i64
     requires { ⌜ SixSized olds news ⌝ }
     ensures { λ r. ⌜ Spread olds news r ⌝ }
 {
@@ -49,7 +49,7 @@ pub fn spread(olds: [Vec2; 6], news: [Vec2; 6]) -> i64
 }
 
 // Whether a station lies so far from a point, along its own heading, that nothing `near` the point crosses it.
-pub fn far_off(s: Station, a: Vec2, near: i64) -> bool
+pub(crate) fn far_off(s: Station, a: Vec2, near: i64) -> bool
     requires { ⌜ Measured s a near ⌝ }
     ensures { λ r. ⌜ r ≡ farOff s a near ⌝ }
 {

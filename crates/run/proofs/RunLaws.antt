@@ -16,7 +16,7 @@ use Rattle.path.specs.declared.Laid.{Laid}
 use Rattle.path.specs.declared.Laid.the-variants as L
 use Rattle.path.specs.Stations.{stations}
 use Rattle.path.specs.Laying.{PathRuns, roomFor, written, layAnswer, laidRuns, LayEnsures}
-use Rattle.path.specs.LaidPath.{stationAt as jobStation}
+use Rattle.path.specs.LaidPath.{jobStation}
 use Rattle.path.proofs.JobLaws.{stations-answered, stations-count}
 use Rattle.path.proofs.LayLaws.{room-for-fewer}
 use Rattle.path.proofs.EntryLaws.{written-lengths, path-in-runs}
@@ -88,7 +88,7 @@ module _ (j : Job) (p : PathRuns) (m : ℕ) (q : PathRuns) (t : LayEnsures j p (
   laid-station i h =
       let k = path-in-runs j p m q t in
       let s = sound-path j (k .accepted) .sound i (omega (arith, k .count)) in
-      subst (λ (z : Station). stationSound z ≡ true) (sym (k .entries i h)) (passes (jobStation j i) (s .x) (s .y) (s .heading))
+      subst (λ (z : Station). stationSound z ≡ true) (sym (k .entries i h)) (passes (jobStation j i) s)
 
   job-vehicle : vehicleSound (j .vehicle) ≡ true
   unfolding vehicleSound

@@ -21,7 +21,7 @@ pub fn put_bytes(run: &mut [u8], at: usize, bytes: &[u8]) -> usize
 }
 
 // Writes the last `count` digits of a number, zeros in front included. They are found from the last to the first.
-pub fn put_digits(run: &mut [u8], at: usize, count: usize, n: u64) -> usize
+fn put_digits(run: &mut [u8], at: usize, count: usize, n: u64) -> usize
     requires { ⌜ Room (digits count n) at (length (now run)) ⌝ }
     ensures { λ r. ⌜ (r ≡ at + length (digits count n)) × (now (run .exit) ≡ sets (now (run .entry)) at (digits count n)) ⌝ }
 {

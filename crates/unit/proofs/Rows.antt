@@ -6,7 +6,7 @@ use Rattle.exact.specs.Nearest.{halfTo, nearestSize, nearestZ}
 use Rattle.plane.specs.declared.Vec2.{Vec2}
 use Rattle.plane.specs.Length.{hasLength}
 use Rattle.unit.specs.declared.UnitTurn.the-variants as U
-use Rattle.unit.specs.Turn.{turnedBy, tooFar, wheelbaseAllowed, unitTurn}
+use Rattle.unit.specs.Turn.{turnedBy, tooFar, unitTurn}
 use Rattle.unit.specs.Coupling.{foldAllowed}
 
 abbrev vec : ℤ → ℤ → Vec2
@@ -19,5 +19,5 @@ pub record Rows : Type 0 where
   pub folded : foldAllowed (vec (pos 0) (pos 50000)) (vec (pos 50000) (negsuc 0)) (pos 0) (pos 50000) (pos 50000) ≡ false
 
 pub rows : Rows
-unfolding halfTo nearestSize nearestZ hasLength turnedBy tooFar wheelbaseAllowed unitTurn foldAllowed
+unfolding halfTo nearestSize nearestZ hasLength turnedBy tooFar unitTurn foldAllowed
 rows = record { turned = refl; straight = refl; square = refl; folded = refl }

@@ -9,15 +9,15 @@ use Rattle.exact.proofs.Polynomial.{and-left, and-right}
 use Rattle.exact.proofs.Order.{of-true, ltZ-false}
 use Rattle.plane.specs.declared.Vec2.{Vec2}
 use Rattle.plane.specs.Vector.{normSq}
+use Rattle.plane.specs.Wheelbase.{isWheelbase}
 use Rattle.plane.specs.Length.{hasLength}
 use Rattle.plane.proofs.Lengths.{near-of, box, in-box}
 use Rattle.unit.specs.declared.UnitTurn.the-variants as U
-use Rattle.unit.specs.Turn.{turnedBy, tooFar, wheelbaseAllowed, unitTurn, Wheelbase, Turnable}
+use Rattle.unit.specs.Turn.{turnedBy, tooFar, unitTurn, Wheelbase, Turnable}
 use Rattle.unit.proofs.Turning.{wheelbase-nominal}
 use Rattle.unit.proofs.UnitSizes.{move-short}
 
-pub wheelbase-of : (l : ℕ) → wheelbaseAllowed l ≡ true → Wheelbase (pos l)
-unfolding wheelbaseAllowed
+pub wheelbase-of : (l : ℕ) → isWheelbase l ≡ true → Wheelbase (pos l)
 wheelbase-of l e =
     let t : T (leb 5000 l && leb l 200000) = of-true e in
     record { least = record { le = and-left (leb 5000 l) (leb l 200000) t }; most = record { le = and-right (leb 5000 l) (leb l 200000) t } }
@@ -52,18 +52,18 @@ turnable-of d f l w n m = record { wheelbase = w; near = near-of d l n; move = m
 
 -- the answers of the entry, test by test
 module _ (d f : Vec2) (l : ℕ) where
-  pub refused-wheelbase : wheelbaseAllowed l ≡ false → unitTurn d f l ≡ U.Refused 27
+  pub refused-wheelbase : isWheelbase l ≡ false → unitTurn d f l ≡ U.Refused 27
   unfolding unitTurn
   refused-wheelbase w = rw w
 
-  pub refused-length : hasLength d (pos l) ≡ false → wheelbaseAllowed l ≡ true → unitTurn d f l ≡ U.Refused 27
+  pub refused-length : hasLength d (pos l) ≡ false → isWheelbase l ≡ true → unitTurn d f l ≡ U.Refused 27
   unfolding unitTurn
   refused-length n w = rw (w, n)
 
-  pub refused-far : tooFar f (pos l) ≡ true → wheelbaseAllowed l ≡ true → hasLength d (pos l) ≡ true → unitTurn d f l ≡ U.Refused 22
+  pub refused-far : tooFar f (pos l) ≡ true → isWheelbase l ≡ true → hasLength d (pos l) ≡ true → unitTurn d f l ≡ U.Refused 22
   unfolding unitTurn
   refused-far m w n = rw (w, n, m)
 
-  pub accepted : tooFar f (pos l) ≡ false → wheelbaseAllowed l ≡ true → hasLength d (pos l) ≡ true → unitTurn d f l ≡ U.Turned (turnedBy d f (pos l))
+  pub accepted : tooFar f (pos l) ≡ false → isWheelbase l ≡ true → hasLength d (pos l) ≡ true → unitTurn d f l ≡ U.Turned (turnedBy d f (pos l))
   unfolding unitTurn
   accepted m w n = rw (w, n, m)

@@ -7,6 +7,7 @@ use Rattle.exact.specs.Size.{Within}
 use Rattle.exact.specs.Nearest.{Divisor}
 use Rattle.plane.specs.declared.Vec2.{Vec2}
 use Rattle.plane.specs.Vector.{dot, times, nearestV}
+use Rattle.plane.specs.Wheelbase.{wheelbaseMost}
 use Rattle.unit.specs.Turn.{UnitSized}
 
 -- where the hitch lies from the rear axle, h ahead of it: nearest h × d / L
@@ -24,7 +25,7 @@ opposite v = record { x = negℤ (v .x); y = negℤ (v .y) }
 -- what a hitch asks
 pub record Hitched (d : Vec2) (h l : ℤ) : Type 0 where
   pub vector : UnitSized d
-  pub hitch : Within 200000 h
+  pub hitch : Within wheelbaseMost h
   pub wheelbase : Divisor l
 
 -- what the fold test asks
@@ -32,14 +33,14 @@ pub record Coupled (a d : Vec2) (limit la ld : ℤ) : Type 0 where
   pub ahead : UnitSized a
   pub behind : UnitSized d
   pub foldLimit : Within 1000 limit
-  pub wheelbaseAhead : Within 200000 la
-  pub wheelbaseBehind : Within 200000 ld
+  pub wheelbaseAhead : Within wheelbaseMost la
+  pub wheelbaseBehind : Within wheelbaseMost ld
 
 -- what a multiple of a vector, v × n / q, asks: a heading times a wheelbase, or a unit's vector times a hitch
 pub record Scalable (v : Vec2) (n q : ℤ) : Type 0 where
   pub x : Within 1000000 (v .x)
   pub y : Within 1000000 (v .y)
-  pub factor : Within 200000 n
+  pub factor : Within wheelbaseMost n
   pub divisor : Divisor q
 
 -- the claim of the hitch, which pins its sign: the whole wheelbase ahead of the rear axle lies the front point, at no distance the axle,

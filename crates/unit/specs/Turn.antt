@@ -1,12 +1,13 @@
 -- Turning one unit (01, "Drawing the units"). A unit is its vector d from rear axle to front point; L is its wheelbase, f the move of its front point.
 use mathlib.Core.Bool.{Bool, _&&_, cond}
 use Prim.Native.Nat.{ℕ}
-use lib.Dec.{leb}
 use lib.IntN.{ℤ, pos, _*ℤ_}
 use lib.Signed.{_≤ℤ_, ltZ}
 use Rattle.exact.specs.Size.{Within}
 use Rattle.plane.specs.declared.Vec2.{Vec2}
 use Rattle.plane.specs.Vector.{dot, normSq, plus, minus, times, nearestV}
+use Rattle.plane.specs.Wheelbase.{wheelbaseMost, isWheelbase}
+pub use Rattle.plane.specs.Wheelbase.{Wheelbase}
 use Rattle.plane.specs.Length.{headingLength, hasLength, Near}
 use Rattle.plane.specs.Settle.{settleZ}
 use Rattle.plane.specs.Drawn.{Kept}
@@ -37,21 +38,12 @@ turnedBy d f l = settleZ (mirrored d f) l
 unfoldable pub tooFar : Vec2 → ℤ → Bool
 tooFar f l = ltZ (l *ℤ l) (normSq f)
 
--- a wheelbase is from 5,000 to 200,000
-unfoldable pub wheelbaseAllowed : ℕ → Bool
-wheelbaseAllowed l = leb 5000 l && leb l 200000
-
 -- the single unit's turn: 27 for a wheelbase out of range or |d|² off L² by more than 2L, then 22, then the turned vector
 unfoldable pub unitTurn : Vec2 → Vec2 → ℕ → UnitTurn
 unitTurn d f l =
-    cond (wheelbaseAllowed l && hasLength d (pos l))
+    cond (isWheelbase l && hasLength d (pos l))
     (cond (tooFar f (pos l)) (U.Refused 22) (U.Turned (turnedBy d f (pos l))))
     (U.Refused 27)
-
--- a wheelbase of the job's range
-pub record Wheelbase (l : ℤ) : Type 0 where
-  pub least : pos 5000 ≤ℤ l
-  pub most : l ≤ℤ pos 200000
 
 -- what a placed vector asks: |g|² differs from N² by at most 2N
 pub record Placeable (g : Vec2) (l : ℤ) : Type 0 where
@@ -66,8 +58,8 @@ pub record Turnable (d f : Vec2) (l : ℤ) : Type 0 where
 
 -- the sizes of a unit's vector and of its front point's move: coordinates up to the greatest wheelbase
 pub record UnitSized (v : Vec2) : Type 0 where
-  pub x : Within 200000 (v .x)
-  pub y : Within 200000 (v .y)
+  pub x : Within wheelbaseMost (v .x)
+  pub y : Within wheelbaseMost (v .y)
 
 -- what the mirror image asks
 pub record Mirrorable (d f : Vec2) : Type 0 where

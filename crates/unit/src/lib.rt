@@ -2,11 +2,12 @@
 use plane::Vec2;
 ghost use mathlib.Core.Path.{_≡_};
 ghost use Rattle.plane.specs.Vector.{times, nearestV};
-ghost use Rattle.unit.specs.Turn.{placedBy, turnedBy, tooFar, wheelbaseAllowed, unitTurn, Wheelbase, Placeable, Turnable, PlacedRule, TurnRule};
+ghost use Rattle.plane.specs.Wheelbase.{isWheelbase};
+ghost use Rattle.unit.specs.Turn.{placedBy, turnedBy, tooFar, unitTurn, Wheelbase, Placeable, Turnable, PlacedRule, TurnRule};
 ghost use Rattle.unit.specs.Coupling.{hitchOffset, foldAllowed, Hitched, Coupled, Scalable, HitchRule};
 ghost use Rattle.unit.specs.Construction.{Construction1988};
 
-pub mod mirror;
+mod mirror;
 
 // What the turn of a single unit answers: the new vector, or the number of the refusal.
 pub enum UnitTurn {
@@ -74,7 +75,7 @@ pub fn turned(d: Vec2, f: Vec2, l: i64) -> Vec2
 }
 
 fn wheelbase_allowed(wheelbase: u32) -> bool
-    ensures { λ r. ⌜ r ≡ wheelbaseAllowed wheelbase ⌝ }
+    ensures { λ r. ⌜ r ≡ isWheelbase wheelbase ⌝ }
 {
     (5000 <= wheelbase) & (wheelbase <= 200000)
 }

@@ -4,7 +4,7 @@ ghost use mathlib.Core.Path.{_≡_};
 ghost use Rattle.unit.specs.Turn.{mirrored, Mirrorable};
 
 // d mirrored in the line along m = 2d + f, nearest by coordinate.
-pub fn mirrored_vector(d: Vec2, f: Vec2) -> Vec2
+pub(crate) fn mirrored_vector(d: Vec2, f: Vec2) -> Vec2
     requires { ⌜ Mirrorable d f ⌝ }
     ensures { λ r. ⌜ r ≡ mirrored d f ⌝ }
 {

@@ -19,21 +19,33 @@ use Rattle.walk.specs.declared.UnitsTurned.{UnitsTurned}
 use Rattle.walk.specs.declared.StepAnswer.the-variants as S
 use Rattle.walk.specs.Drawn.{view, outcomeOf, made}
 use Rattle.walk.specs.Tests.{unitsInUse}
-use Rattle.walk.specs.Units.{wheelbaseOf, none, turnUnits}
+use Rattle.walk.specs.Units.{wheelbaseOf, none, Turning, turned, stopped, turnUnits}
 use Rattle.walk.specs.Rig.{Stepped, afterTurning}
-use Rattle.walk.specs.Inner.{turningBy, turningOf}
+use Rattle.walk.specs.Inner.{unitsTurned}
 use Rattle.walk.specs.Moving.{AdvanceEnsures}
 
-module _ (w : Walk) (old new : Vec2) (t : UnitsTurned) (h : turningOf t ≡ turnUnits 1 none (unitsInUse (w .vehicle)) (w .d) old new) where
+-- the turns, from what the code answers
+abbrev turningBy : Turns → List Vec2 → Turning
+turningBy T.All ds = turned ds
+turningBy (T.Stopped n i) ds = stopped n i
+
+turning-told : (ds : List Vec2) (z : Turning) → let t = unitsTurned ds z in turningBy (t .turns) (t .d) ≡ z
+turning-told ds (turned es) = refl
+turning-told ds (stopped n i) = refl
+
+module _ (w : Walk) (old new : Vec2) (t : UnitsTurned) (h : t ≡ unitsTurned (w .d) (turnUnits 1 none (unitsInUse (w .vehicle)) (w .d) old new)) where
+  told : turningBy (t .turns) (t .d) ≡ turnUnits 1 none (unitsInUse (w .vehicle)) (w .d) old new
+  told = ap (λ (u : UnitsTurned). turningBy (u .turns) (u .d)) h ∙ turning-told (w .d) _
+
   pub all-turned : t .turns ≡ T.All → AdvanceEnsures w old new (record { answer = S.Made; walk = record { vehicle = w .vehicle; station = w .station + 1; d = t .d } })
   all-turned e = record {
-    stepped = ap (λ (a : Turns). afterTurning (view w) (turningBy a (t .d))) (sym e) ∙ ap (afterTurning (view w)) h;
+    stepped = ap (λ (a : Turns). afterTurning (view w) (turningBy a (t .d))) (sym e) ∙ ap (afterTurning (view w)) told;
     unchanged = λ f. absurd (f refl);
   }
 
   pub one-stopped : (n i : ℕ) → t .turns ≡ T.Stopped n i → AdvanceEnsures w old new (record { answer = S.RefusedUnit n i; walk = w })
   one-stopped n i e = record {
-    stepped = ap (λ (a : Turns). afterTurning (view w) (turningBy a (t .d))) (sym e) ∙ ap (afterTurning (view w)) h;
+    stepped = ap (λ (a : Turns). afterTurning (view w) (turningBy a (t .d))) (sym e) ∙ ap (afterTurning (view w)) told;
     unchanged = λ f. refl;
   }
 

@@ -11,15 +11,15 @@ use Rattle.exact.specs.Size.{Within}
 use Rattle.number.specs.Field.{sizeAtMost}
 use Rattle.number.proofs.FieldCodec.{both, and}
 use Rattle.plane.specs.Length.{headingLength, hasLength, Near}
-use Rattle.plane.proofs.Lengths.{near-of}
+use Rattle.plane.proofs.Lengths.{near-of, of-near}
 use Rattle.path.specs.declared.Station.{Station}
-use Rattle.path.specs.Laying.{PathRuns, roomFor}
+use Rattle.path.specs.Laying.{PathRuns, SoundStation, roomFor}
 use Rattle.path.proofs.StoreLaws.{room}
 use Rattle.walk.specs.Drawn.{stationAt}
 use Rattle.walk.specs.Tests.{stationSound, pathSound}
-use Rattle.walk.specs.TestRequires.{StationLent, SoundStation}
+use Rattle.walk.specs.TestRequires.{StationLent}
 
--- a station that passed is sound
+-- the test of 26 lets just the sound stations pass
 pub sound-station : (s : Station) → stationSound s ≡ true → SoundStation s
 unfolding stationSound
 sound-station s e =
@@ -33,10 +33,11 @@ sound-station s e =
       heading = near-of (s .heading) headingLength (q .1);
     }
 
--- the test, by its parts
-pub passes : (s : Station) → Within 150000000 (s .position .x) → Within 150000000 (s .position .y) → hasLength (s .heading) headingLength ≡ true → stationSound s ≡ true
+pub passes : (s : Station) → SoundStation s → stationSound s ≡ true
 unfolding stationSound
-passes s x y g = and (le-leb (natAbs (s .position .x)) 150000000 (x .size)) (and (le-leb (natAbs (s .position .y)) 150000000 (y .size)) g)
+passes s k =
+    and (le-leb (natAbs (s .position .x)) 150000000 (k .x .size))
+    (and (le-leb (natAbs (s .position .y)) 150000000 (k .y .size)) (of-near (s .heading) headingLength (k .heading)))
 
 module _ (p : PathRuns) where
   pub path-none : pathSound 0 p ≡ true

@@ -1,12 +1,10 @@
 -- The drawn rig (01, "The two rigs of demand 3"): its state, what it is fed and what it answers. It reads no program record.
 use Prim.Native.Nat.{ℕ}
 use mathlib.Core.List.{List}
-use lib.ListN.{getD}
-use lib.IntN.{ℤ, pos}
 use Rattle.plane.specs.declared.Vec2.{Vec2}
 use Rattle.job.specs.declared.Vehicle.{Vehicle}
-use Rattle.path.specs.declared.Station.{Station}
 use Rattle.path.specs.Laying.{PathRuns}
+pub use Rattle.path.specs.Laying.{stationAt}
 use Rattle.walk.specs.declared.Walk.{Walk}
 use Rattle.walk.specs.declared.StepAnswer.{StepAnswer}
 use Rattle.walk.specs.declared.StepAnswer.the-variants as S
@@ -32,13 +30,6 @@ pub record Call : Type 0 where
   pub asked : ℕ
   pub path : PathRuns
   pub reaches : Lengths
-
--- station i of a path
-abbrev pub stationAt : PathRuns → ℕ → Station
-stationAt p i = record {
-  position = record { x = getD (p .xs) i (pos 0); y = getD (p .ys) i (pos 0) };
-  heading = record { x = getD (p .gxs) i (pos 0); y = getD (p .gys) i (pos 0) };
-}
 
 -- what a step call answers: that the step is made, a refusal's number, or its number and unit
 pub data Outcome : Type 0 where

@@ -15,7 +15,6 @@ use Rattle.job.specs.Empty.{emptyUnit}
 use Rattle.unit.specs.declared.UnitTurn.{UnitTurn}
 use Rattle.unit.specs.declared.UnitTurn.the-variants as U
 use Rattle.unit.specs.Turn.{turnedBy, tooFar, Wheelbase}
-use Rattle.walk.specs.declared.Turns.{Turns}
 use Rattle.walk.specs.declared.Turns.the-variants as T
 use Rattle.walk.specs.declared.UnitsTurned.{UnitsTurned}
 use Rattle.walk.specs.Units.{wheelbaseOf, Ahead, none, behind, foldKept, Turning, turned, stopped}
@@ -32,13 +31,10 @@ nextTurn ahead u d old new =
 abbrev pub aheadIf : Bool → VehicleUnit → Vec2 → Ahead
 aheadIf t a d = pick t (behind a d) none
 
--- the turns of all units, from what the code answers
-abbrev pub turningBy : Turns → List Vec2 → Turning
-turningBy T.All ds = turned ds
-turningBy (T.Stopped n i) ds = stopped n i
-
-abbrev pub turningOf : UnitsTurned → Turning
-turningOf r = turningBy (r .turns) (r .d)
+-- the turns of all units, as the code answers them: a refusal stands beside the vectors `ds` that were handed in
+abbrev pub unitsTurned : List Vec2 → Turning → UnitsTurned
+unitsTurned ds (turned es) = record { turns = T.All; d = es }
+unitsTurned ds (stopped n i) = record { turns = T.Stopped n i; d = ds }
 
 -- a unit whose measures are in the job's range
 pub record UnitReady (u : VehicleUnit) : Type 0 where

@@ -1,12 +1,8 @@
--- What the tests of a walk that are no entries ask of their callers, and what a station that passed is.
+-- What the tests of a walk that are no entries ask of their callers.
 use Prim.Native.Nat.{ℕ, _<_}
 use mathlib.Core.Path.{_≡_}
 use mathlib.Core.Bool.{true}
 use lib.ListN.{length}
-use lib.IntN.{pos, _*ℤ_}
-use Rattle.exact.specs.Size.{Within}
-use Rattle.plane.specs.Length.{headingLength, Near}
-use Rattle.path.specs.declared.Station.{Station}
 use Rattle.job.specs.declared.Vehicle.{Vehicle}
 use Rattle.path.specs.Laying.{PathRuns, roomFor}
 use Rattle.walk.specs.Tests.{vehicleSound}
@@ -25,9 +21,3 @@ pub record PathLent (asked : ℕ) (p : PathRuns) : Type 0 where
 -- a vehicle that passed its own test
 pub record VehicleTested (v : Vehicle) : Type 0 where
   pub sound : vehicleSound v ≡ true
-
--- a station as refusal 26 lets it pass
-pub record SoundStation (s : Station) : Type 0 where
-  pub x : Within 150000000 (s .position .x)
-  pub y : Within 150000000 (s .position .y)
-  pub heading : Near (s .heading) headingLength (pos 2 *ℤ headingLength)

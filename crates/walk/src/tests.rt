@@ -106,7 +106,7 @@ fn vector_sound(v: Vehicle, k: usize, d: Vec2) -> bool
     is_zero(d)
 }
 
-pub fn vectors_sound(v: Vehicle, d: [Vec2; 4]) -> bool
+fn vectors_sound(v: Vehicle, d: [Vec2; 4]) -> bool
     requires { ⌜ VehicleTested v ⌝ }
     ensures { λ r. ⌜ r ≡ vectorsSound (unitsInUse v) d ⌝ }
 {

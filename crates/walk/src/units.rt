@@ -8,7 +8,7 @@ use unit::UnitTurn;
 ghost use mathlib.Core.Path.{_≡_};
 ghost use Rattle.walk.specs.Tests.{unitsInUse};
 ghost use Rattle.walk.specs.Units.{hitchAt, foldKept, none, behind, turnUnits};
-ghost use Rattle.walk.specs.Inner.{nextTurn, aheadIf, turningOf, TurnReady, HitchReady, FoldReady, UnitsReady};
+ghost use Rattle.walk.specs.Inner.{nextTurn, aheadIf, unitsTurned, TurnReady, HitchReady, FoldReady, UnitsReady};
 
 // The hitch of a unit whose front point lies at `front`.
 pub fn hitch_at(u: Unit, front: Vec2, d: Vec2) -> Vec2
@@ -60,10 +60,10 @@ fn turn_next(
     UnitTurn::Refused(23)
 }
 
-// The units in use, turned from the first, whose front point goes from old to new.
-pub fn turn_units(v: Vehicle, d: [Vec2; 4], old: Vec2, new: Vec2) -> UnitsTurned
+// The units in use, turned from the first, whose front point goes from old to new; a refusal hands the old vectors back.
+pub(crate) fn turn_units(v: Vehicle, d: [Vec2; 4], old: Vec2, new: Vec2) -> UnitsTurned
     requires { ⌜ UnitsReady v d old new ⌝ }
-    ensures { λ r. ⌜ turningOf r ≡ turnUnits 1 none (unitsInUse v) d old new ⌝ }
+    ensures { λ r. ⌜ r ≡ unitsTurned d (turnUnits 1 none (unitsInUse v) d old new) ⌝ }
 {
     let count = v.count;
     let units = v.units;

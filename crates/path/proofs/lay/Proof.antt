@@ -67,9 +67,8 @@ lay-stations-requires c κs =
     let b = t .before in
     let s = b .before .before .before .before in
     let h = no-fault (b .before .before) in
-    let y = start-sound (j s .start) (sound (j s) h .start) in
     subst (λ (q : Station). Layable (j s .step) (j s .count) (b .step-count .result) (j s .elements) q (given s)) (sym (p .start-station .ensures))
-    (record { accepted = accepted (j s) (places s) h; counted = b .step-count .ensures; room = room t; x = y .0; y = y .1; heading = y .2 })
+    (record { accepted = accepted (j s) (places s) h; counted = b .step-count .ensures; room = room t; start = sound (j s) h .start })
 
 same-length : tie.Need-same-length
 same-length c = search needs

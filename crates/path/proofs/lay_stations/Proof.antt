@@ -16,7 +16,8 @@ use Rattle.job.specs.Empty.{emptyElement}
 use Rattle.path.specs.declared.PathCursor.{PathCursor}
 use Rattle.path.specs.Stations.{stepsOn, stationsFrom}
 use Rattle.path.specs.Cursor.{cursorAfter, OnElement}
-use Rattle.path.specs.Laying.{PathRuns, pathRuns, roomFor, written, stored, Storable}
+use Rattle.path.specs.Laying.{PathRuns, pathRuns, roomFor, written, stored, startAt, Storable}
+use Rattle.path.proofs.JobLaws.{start-sound}
 use Rattle.path.proofs.LayLaws.{writtenAt, written-next, SameLengths, stored-lengths, room-for-fewer, Laying, laying-start, laying-next, laying-end, storable-next, on-path, on-element, Usable, usable}
 use Rattle.path.proofs.lay_stations.Statement.{statement}
 use Rattle.path.proofs.lay_stations.Tie as tie
@@ -49,12 +50,11 @@ store-requires : tie.Need-store-requires Inv-loop μ-loop
 store-requires c κs =
     let s = c .before .before .before .before in
     let y = s .pre in
+    let b = start-sound (startAt (s .args .start)) (y .start) in
     let same : SameLengths (given s) (given s) = record { xs = refl; ys = refl; gxs = refl; gys = refl } in
     record {
       room = room-for-fewer 1 (s .args .steps + 1) (given s) (given s) same (omega arith) (y .room);
-      x = within-more (lit≤ tt) (y .x);
-      y = within-more (lit≤ tt) (y .y);
-      heading = y .heading;
+      station = record { x = within-more (lit≤ tt) (b .0); y = within-more (lit≤ tt) (b .1); heading = b .2 };
     }
 
 -- before the loop: station 0 is written
@@ -76,7 +76,8 @@ module _ (g : tie.After-gys Inv-loop μ-loop) where
 
 loop-holds : tie.Need-loop-holds Inv-loop μ-loop
 loop-holds c =
-    (four (at c), laying-start (at c .args .start) (first c) (use-of (at c)) (at c .pre .heading) (at c .pre .x, at c .pre .y))
+    let b = start-sound (startAt (at c .args .start)) (at c .pre .start) in
+    (four (at c), laying-start (at c .args .start) (first c) (use-of (at c)) (b .2) (b .0, b .1))
 
 mul-e : tie.Need-mul-e Inv-loop μ-loop
 mul-e c =

@@ -31,31 +31,40 @@ module _ (s : tie.Start) where
       (omega (arith, r .0), omega (arith, r .1), omega (arith, r .2), omega (arith, r .3))
 
   sizes : Within 1000000 (s .args .p .heading .x) × Within 1000000 (s .args .p .heading .y)
-  sizes = heading-within (s .args .p .heading) (s .pre .heading)
+  sizes = heading-within (s .args .p .heading) (s .pre .station .heading)
+
+  -- a coordinate as the callee reads it is itself
+  exact-x : reread (s .args .p .position .x) ≡ s .args .p .position .x
+  exact-x = search needs
+
+  exact-y : reread (s .args .p .position .y) ≡ s .args .p .position .y
+  exact-y = search needs
+
+  exact-gx : reread (s .args .p .heading .x) ≡ s .args .p .heading .x
+  exact-gx = search needs
+
+  exact-gy : reread (s .args .p .heading .y) ≡ s .args .p .heading .y
+  exact-gy = search needs
 
 put-requires : tie.Need-put-requires
 put-requires c κs =
     let s = c .before .before .before .before .before .before .before in
-    let e : reread (s .args .p .position .x) ≡ s .args .p .position .x = search needs in
-    entry (s .args .i) _ (lit≤ tt) (rooms s .0) (s .pre .x) e
+    entry (s .args .i) _ (lit≤ tt) (rooms s .0) (s .pre .station .x) (exact-x s)
 
 put-requires-2 : tie.Need-put-requires-2
 put-requires-2 c κs =
     let s = c .before .before .before .before .before .before .before .before .before .before in
-    let e : reread (s .args .p .position .y) ≡ s .args .p .position .y = search needs in
-    entry (s .args .i) _ (lit≤ tt) (rooms s .1) (s .pre .y) e
+    entry (s .args .i) _ (lit≤ tt) (rooms s .1) (s .pre .station .y) (exact-y s)
 
 put-requires-3 : tie.Need-put-requires-3
 put-requires-3 c κs =
     let s = c .before .before .before .before .before .before .before .before .before .before .before .before .before in
-    let e : reread (s .args .p .heading .x) ≡ s .args .p .heading .x = search needs in
-    entry (s .args .i) _ (lit≤ tt) (rooms s .2) (sizes s .0) e
+    entry (s .args .i) _ (lit≤ tt) (rooms s .2) (sizes s .0) (exact-gx s)
 
 put-requires-4 : tie.Need-put-requires-4
 put-requires-4 c κs =
     let s = c .before .before .before .before .before .before .before .before .before .before .before .before .before .before .before .before in
-    let e : reread (s .args .p .heading .y) ≡ s .args .p .heading .y = search needs in
-    entry (s .args .i) _ (lit≤ tt) (rooms s .3) (sizes s .1) e
+    entry (s .args .i) _ (lit≤ tt) (rooms s .3) (sizes s .1) (exact-gy s)
 
 same-length : tie.Need-same-length
 same-length c = search needs
@@ -73,14 +82,10 @@ returns : tie.Need-returns
 returns c =
     let s = c .before .before .before .before .before .before .before .before .before .before .before .before .before .before .before .before .before .before in
     let a = s .args in
-    let x : reread (a .p .position .x) ≡ a .p .position .x = search needs in
-    let y : reread (a .p .position .y) ≡ a .p .position .y = search needs in
-    let gx : reread (a .p .heading .x) ≡ a .p .heading .x = search needs in
-    let gy : reread (a .p .heading .y) ≡ a .p .heading .y = search needs in
-    let e1 = c .before .before .before .before .before .before .before .before .before .before .put .ensures ∙ ap (set (now (a .xs)) (a .i)) x in
-    let e2 = c .before .before .before .before .before .before .before .put2 .ensures ∙ ap (set (now (a .ys)) (a .i)) y in
-    let e3 = c .before .before .before .before .put3 .ensures ∙ ap (set (now (a .gxs)) (a .i)) gx in
-    let e4 = c .before .put4 .ensures ∙ ap (set (now (a .gys)) (a .i)) gy in
+    let e1 = c .before .before .before .before .before .before .before .before .before .before .put .ensures ∙ ap (set (now (a .xs)) (a .i)) (exact-x s) in
+    let e2 = c .before .before .before .before .before .before .before .put2 .ensures ∙ ap (set (now (a .ys)) (a .i)) (exact-y s) in
+    let e3 = c .before .before .before .before .put3 .ensures ∙ ap (set (now (a .gxs)) (a .i)) (exact-gx s) in
+    let e4 = c .before .put4 .ensures ∙ ap (set (now (a .gys)) (a .i)) (exact-gy s) in
     λ i. record { xs = e1 i; ys = e2 i; gxs = e3 i; gys = e4 i }
 
 pub store-spec : {M : Type 1} → statement M

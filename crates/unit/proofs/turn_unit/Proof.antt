@@ -7,9 +7,10 @@ use lib.IntN.{pos}
 use mir.Syntax.{w64}
 use mir.Val.{toZ}
 use mir.Facts.{toZ-pos}
+use Rattle.plane.specs.Wheelbase.{isWheelbase}
 use Rattle.plane.specs.Length.{hasLength, Nominal}
 use Rattle.unit.specs.declared.UnitTurn.the-variants as U
-use Rattle.unit.specs.Turn.{turnedBy, tooFar, wheelbaseAllowed, Wheelbase, Turnable}
+use Rattle.unit.specs.Turn.{turnedBy, tooFar, Wheelbase, Turnable}
 use Rattle.unit.proofs.Turning.{wheelbase-nominal}
 use Rattle.unit.proofs.UnitTests.{wheelbase-of, turnable-of, refused-wheelbase, refused-length, refused-far, accepted}
 use Rattle.unit.proofs.turn_unit.Statement.{statement}
@@ -29,7 +30,7 @@ module _ (c : tie.Then1) where
   exact-l : toZ w64 (s .args .wheelbase) ≡ pos (s .args .wheelbase)
   exact-l = toZ-pos w64 (search needs)
 
-  allowed : wheelbaseAllowed (s .args .wheelbase) ≡ true
+  allowed : isWheelbase (s .args .wheelbase) ≡ true
   allowed = sym (c .before .wheelbase-allowed .ensures) ∙ c .if1 .taken
 
 has-length-requires : tie.Need-has-length-requires

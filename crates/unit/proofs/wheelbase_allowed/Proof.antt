@@ -1,11 +1,9 @@
 -- `unit::wheelbase_allowed` meets its contract.
 use borrow.Author.Needs.{needs}
-use Rattle.unit.specs.Turn.{wheelbaseAllowed}
 use Rattle.unit.proofs.wheelbase_allowed.Statement.{statement}
 use Rattle.unit.proofs.wheelbase_allowed.Tie as tie
 
 returns : tie.Need-returns
-unfolding wheelbaseAllowed
 returns c = search needs
 
 pub wheelbase-allowed-spec : {M : Type 1} → statement M

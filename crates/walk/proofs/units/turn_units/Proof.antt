@@ -15,7 +15,7 @@ use Rattle.unit.specs.declared.UnitTurn.the-variants as U
 use Rattle.job.proofs.Arrays.{unmapped}
 use Rattle.walk.specs.Units.{hitchAt, none, Turning, turned, turnUnits}
 use Rattle.walk.specs.Rig.{zeroVector}
-use Rattle.walk.specs.Inner.{nextTurn, aheadIf, TurnReady, HitchReady}
+use Rattle.walk.specs.Inner.{nextTurn, aheadIf, unitsTurned, TurnReady, HitchReady}
 use Rattle.walk.proofs.UnitsLaws.{UnitsLeft, units-start, turn-ready, stopped-here, hitch-from, hitch-to, units-next, units-done}
 use Rattle.walk.proofs.units.turn_units.Statement.{statement}
 use Rattle.walk.proofs.units.turn_units.Tie as tie
@@ -106,7 +106,7 @@ returns : tie.Need-returns Inv-loop μ-loop
 returns c =
     let k = c .before .before .before in
     let b = k .before .before .before in
-    stopped-here (b .before .loop .inv .2) (here b) (short b) (c .before .t .given .0 .0) (answered k ∙ c .before .t .given .1)
+    ap (unitsTurned (at b .args .t2)) (stopped-here (b .before .loop .inv .2) (here b) (short b) (c .before .t .given .0 .0) (answered k ∙ c .before .t .given .1))
 
 enum-known-t-2 : tie.Need-enum-known-t-2 Inv-loop μ-loop
 enum-known-t-2 c = search needs
@@ -166,7 +166,7 @@ loop-again c =
     )
 
 returns-2 : tie.Need-returns-2 Inv-loop μ-loop
-returns-2 c = let s = c .before .before .before .before .before in units-done (c .before .loop .inv .2) (omega (arith, in-use s, c .loop-test .left))
+returns-2 c = let s = c .before .before .before .before .before in ap (unitsTurned (s .args .t2)) (units-done (c .before .loop .inv .2) (omega (arith, in-use s, c .loop-test .left)))
 
 pub turn-units-spec : {M : Type 1} → statement M
 turn-units-spec =
