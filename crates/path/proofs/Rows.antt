@@ -19,11 +19,11 @@ use Rattle.path.specs.Cuts.{cut, fullSteps, cutsFrom, cuts}
 use Rattle.path.specs.Stations.{stations}
 use Rattle.path.specs.Laying.{PathRuns, layAnswer, laidRuns}
 
-remainder-last : cuts 5000 12001 ≡ cut 0 5000 ∷ cut 5000 5000 ∷ cut 10000 2001 ∷ []
+pub remainder-last : cuts 5000 12001 ≡ cut 0 5000 ∷ cut 5000 5000 ∷ cut 10000 2001 ∷ []
 unfolding fullSteps cutsFrom
 remainder-last = refl
 
-no-remainder : cuts 5000 10000 ≡ cut 0 5000 ∷ cut 5000 5000 ∷ []
+pub no-remainder : cuts 5000 10000 ≡ cut 0 5000 ∷ cut 5000 5000 ∷ []
 unfolding fullSteps cutsFrom
 no-remainder = refl
 

@@ -1,15 +1,16 @@
 -- The turn of a unit: the mirror image is as long as the unit, so it is an exact turn, and what is drawn keeps length, line and side.
 use mathlib.Core.List.{List, [], _∷_}
 use lib.IntN.{ℤ, pos, _*ℤ_}
-use lib.Signed.{_≤ℤ_}
+use lib.Signed.{_≤ℤ_, _<ℤ_}
 use Rattle.exact.proofs.Polynomial.{_⊕_, _⊖_, _⊗_, lit, var}
 use Rattle.exact.proofs.Certificate.{_⊞_, _⊠_, _·_, num, sq, hyp, le}
 use Rattle.plane.specs.declared.Vec2.{Vec2}
-use Rattle.plane.specs.Vector.{normSq}
+use Rattle.plane.specs.Vector.{dot, normSq, rightNormal}
 use Rattle.plane.specs.Length.{Near, Nominal}
-use Rattle.plane.specs.Drawn.{Turned, Drawable}
+use Rattle.plane.specs.Settle.{Settleable}
+use Rattle.plane.specs.Drawn.{Turned, Drawable, Kept}
 use Rattle.plane.proofs.Keeping as Keeping
-use Rattle.unit.specs.Turn.{mirrorLine, image, turnedBy, Wheelbase, Turnable, TurnRule}
+use Rattle.unit.specs.Turn.{mirrorLine, image, mirrored, turnedBy, Wheelbase, Turnable, TurnRule}
 use Rattle.unit.proofs.MirrorImage.{image-length}
 
 -- |m|² = 2|d + f|² + 2|d|² − |f|² is at least 1
@@ -41,13 +42,29 @@ module _ (d f : Vec2) (l : ℤ) (t : Turnable d f l) where
   turnable-turned =
       record { divisor = record { positive = line-positive d f l t }; nominal = wheelbase-nominal (t .wheelbase); near = t .near; exact = image-length m d }
 
-  pub turnable-drawable : Drawable (image m d) (normSq m) l
+  turnable-drawable : Drawable (image m d) (normSq m) l
   turnable-drawable = Keeping.turned-drawable (image m d) (normSq m) d l turnable-turned
 
-pub rule : TurnRule
-unfolding turnedBy
-rule d f l t = Keeping.rule (image (mirrorLine d f) d) (normSq (mirrorLine d f)) d l (turnable-turned d f l t)
+  -- the image, rounded, is near enough to its length to be settled to it
+  pub mirrored-settleable : Settleable (mirrored d f) l
+  mirrored-settleable = turnable-drawable .rounded
 
--- a turned unit can turn again
-pub turned-near : (d f : Vec2) (l : ℤ) → Turnable d f l → Near (turnedBy d f l) l (pos 2 *ℤ l)
-turned-near d f l t = rule d f l t .length
+  turned-kept : Kept (image m d) (turnedBy d f l) l
+  unfolding turnedBy
+  turned-kept = Keeping.rule (image m d) (normSq m) d l turnable-turned
+
+  -- a turned unit can turn again
+  pub turned-near : Near (turnedBy d f l) l (pos 2 *ℤ l)
+  turned-near = turned-kept .length
+
+  abbrev w : Vec2
+  w = image (mirrorLine d f) d
+
+  turned-line : (dot (turnedBy d f l) (rightNormal w) *ℤ dot (turnedBy d f l) (rightNormal w)) ≤ℤ (pos 4 *ℤ normSq w)
+  turned-line = turned-kept .line
+
+  turned-side : pos 0 <ℤ dot (turnedBy d f l) w
+  turned-side = turned-kept .side
+
+pub rule : TurnRule
+rule d f l t = record { length = turned-near d f l t; line = turned-line d f l t; side = turned-side d f l t }

@@ -1,6 +1,7 @@
 -- The hitch between two units and the fold limit (01, "Drawing the units").
+use mathlib.Core.Path.{_≡_}
 use mathlib.Core.Bool.{Bool}
-use lib.IntN.{ℤ, pos, _*ℤ_}
+use lib.IntN.{ℤ, pos, negℤ, _*ℤ_}
 use lib.Signed.{leZ}
 use Rattle.exact.specs.Size.{Within}
 use Rattle.exact.specs.Nearest.{Divisor}
@@ -16,6 +17,10 @@ hitchOffset d h l = nearestV (times d h) l
 -- a unit d behind the unit a may stand so: 1,000 × (a · d) ≥ fold limit × both wheelbases
 unfoldable pub foldAllowed : Vec2 → Vec2 → ℤ → ℤ → ℤ → Bool
 foldAllowed a d limit la ld = leZ (limit *ℤ la *ℤ ld) (pos 1000 *ℤ dot a d)
+
+-- as far the other way
+abbrev pub opposite : Vec2 → Vec2
+opposite v = record { x = negℤ (v .x); y = negℤ (v .y) }
 
 -- what a hitch asks
 pub record Hitched (d : Vec2) (h l : ℤ) : Type 0 where
@@ -37,3 +42,10 @@ pub record Scalable (v : Vec2) (n q : ℤ) : Type 0 where
   pub y : Within 1000000 (v .y)
   pub factor : Within wheelbaseMost n
   pub divisor : Divisor q
+
+-- the claim of the hitch, which pins its sign: the whole wheelbase ahead of the rear axle lies the front point, at no distance the axle,
+-- and a hitch behind the axle lies just opposite the one as far ahead of it
+pub record HitchRule : Type 0 where
+  pub front : (d : Vec2) (l : ℤ) → Divisor l → hitchOffset d l l ≡ d
+  pub axle : (d : Vec2) (l : ℤ) → Divisor l → hitchOffset d (pos 0) l ≡ record { x = pos 0; y = pos 0 }
+  pub behind : (d : Vec2) (h l : ℤ) → Divisor l → hitchOffset d (negℤ h) l ≡ opposite (hitchOffset d h l)

@@ -4,7 +4,7 @@ ghost use mathlib.Core.Path.{_≡_};
 ghost use Rattle.plane.specs.Vector.{times, nearestV};
 ghost use Rattle.plane.specs.Wheelbase.{isWheelbase};
 ghost use Rattle.unit.specs.Turn.{placedBy, turnedBy, tooFar, unitTurn, Wheelbase, Placeable, Turnable, PlacedRule, TurnRule};
-ghost use Rattle.unit.specs.Coupling.{hitchOffset, foldAllowed, Hitched, Coupled, Scalable};
+ghost use Rattle.unit.specs.Coupling.{hitchOffset, foldAllowed, Hitched, Coupled, Scalable, HitchRule};
 ghost use Rattle.unit.specs.Construction.{Construction1988};
 
 mod mirror;
@@ -108,6 +108,11 @@ pub fn placed_rule()
 // Claim: a turned unit keeps its length, lies within two ticks of the exact mirror image's line, and on its side.
 pub fn turn_rule()
     ensures { λ _. ⌜ TurnRule ⌝ }
+{}
+
+// Claim: a hitch lies at the front point, at the axle or behind it, as its distance says.
+pub fn hitch_rule()
+    ensures { λ _. ⌜ HitchRule ⌝ }
 {}
 
 // Claim: the mirror image is the unit turned about the centre of the construction of 1988.

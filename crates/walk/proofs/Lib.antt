@@ -13,3 +13,4 @@ pub mod UnitsKept
 pub mod StartKept
 pub mod StepKept
 pub mod SoundKept
+pub mod HitchLaws

@@ -2,6 +2,7 @@
 use Prim.Native.Nat.{ℕ, _+_}
 use mathlib.Core.Path.{_≡_, refl}
 use mathlib.Core.Bool.{Bool, true, false}
+use mathlib.Core.List.{List}
 use native.Mathlib.Omega.{arith}
 use Rattle.number.specs.Read.{pick}
 use Rattle.plane.specs.declared.Vec2.{Vec2}
@@ -9,7 +10,7 @@ use Rattle.walk.specs.Drawn.{Drawn, Call, stationAt, made}
 use Rattle.walk.specs.Tests.{lent, pathSound, recordSound, atLast, unitsInUse}
 use Rattle.walk.specs.Units.{none, Turning, turned, stopped}
 use Rattle.walk.specs.Rig.{Stepped, turningOf, afterTurning, turnedDown, drawStep}
-use Rattle.walk.specs.Rigid.{AllNearRigid, Keeping, StepRule}
+use Rattle.walk.specs.Rigid.{AllNearRigid, AllOfLength, Keeping, StepRule}
 use Rattle.walk.proofs.UnitsKept.{sound-wheelbases, units-kept}
 use Rattle.walk.proofs.StartKept.{start-kept}
 
@@ -27,10 +28,16 @@ module _ (s : Drawn) (c : Call) (h : Keeping s) where
   down-good : (n : ℕ) → Good (turnedDown s n)
   down-good n = (h, λ e. absurd (let z : _≡_ {A = ℕ} 0 1 = cc in omega arith))
 
+  -- a made step, whatever move of the first front point it is drawn with: lengths are kept
+  after-lengths : (ds : List Vec2) → turningOf s c ≡ turned ds → AllOfLength (unitsInUse (s .vehicle)) ds
+  after-lengths ds e = units-kept 1 none (unitsInUse (s .vehicle)) (s .vectors) ds _ _ (sound-wheelbases (s .vehicle) (h .vehicle)) (h .lengths) e .0
+
+  -- with the move from station k to k + 1: every unit stays near the rigid one
+  after-near : (ds : List Vec2) → turningOf s c ≡ turned ds → AllNearRigid (unitsInUse (s .vehicle)) (s .vectors) ds old new
+  after-near ds e = units-kept 1 none (unitsInUse (s .vehicle)) (s .vectors) ds old new (sound-wheelbases (s .vehicle) (h .vehicle)) (h .lengths) e .1
+
   after-good : (t : Turning) → turningOf s c ≡ t → Good (afterTurning s t)
-  after-good (turned ds) e =
-      let k = units-kept 1 none (unitsInUse (s .vehicle)) (s .vectors) ds old new (sound-wheelbases (s .vehicle) (h .vehicle)) (h .lengths) e in
-      (record { vehicle = h .vehicle; lengths = k .0 }, λ q. k .1)
+  after-good (turned ds) e = (record { vehicle = h .vehicle; lengths = after-lengths ds e }, λ q. after-near ds e)
   after-good (stopped n u) e = (h, λ q. absurd (let z : _≡_ {A = ℕ} 0 1 = cc in omega arith))
 
   by-tests : (a b d e : Bool) (r : Stepped) → Good r → Good (pick a (pick b (pick d (pick e (turnedDown s 25) r) (turnedDown s 27)) (turnedDown s 26)) (turnedDown s 21))

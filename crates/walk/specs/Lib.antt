@@ -6,3 +6,4 @@ pub mod Rig
 pub mod Inner
 pub mod Moving
 pub mod Rigid
+pub mod Hitches

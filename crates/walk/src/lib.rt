@@ -2,6 +2,7 @@
 use job::Vehicle;
 use plane::Vec2;
 ghost use Rattle.walk.specs.Rigid.{StepRule};
+ghost use Rattle.walk.specs.Hitches.{HitchPlace};
 
 pub mod moving;
 pub mod tests;
@@ -42,4 +43,9 @@ pub struct Advanced {
 // Claim: the vectors of a placement have their lengths, a call of the drawn rig keeps them, and a made step stays near the rigid unit.
 pub fn step_rule()
     ensures { λ _. ⌜ StepRule ⌝ }
+{}
+
+// Claim: a hitch lies at the front point, at the rear axle or as far behind it, as its distance says.
+pub fn hitch_place()
+    ensures { λ _. ⌜ HitchPlace ⌝ }
 {}

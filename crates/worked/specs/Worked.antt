@@ -3,7 +3,7 @@ use Prim.Native.Nat.{ℕ}
 use mathlib.Core.Path.{_≡_}
 use mathlib.Core.List.{List, [], _∷_}
 use lib.ListN.{length}
-use lib.IntN.{ℤ, pos, negℤ}
+use lib.IntN.{ℤ, pos}
 use Rattle.exact.specs.Nearest.{nearestZ}
 use Rattle.plane.specs.declared.Vec2.{Vec2}
 use Rattle.plane.specs.Settle.{settleZ}
@@ -17,6 +17,7 @@ use Rattle.unit.specs.declared.UnitTurn.{UnitTurn}
 use Rattle.unit.specs.declared.UnitTurn.the-variants as U
 use Rattle.unit.specs.Turn.{unitTurn}
 use Rattle.walk.specs.Drawn.{Outcome, made, refusedAt}
+use Rattle.worked.specs.Rows.{AllHold, neg, vec}
 use Rattle.worked.specs.Standing.{FoldAnswer}
 
 -- a question, in the paper's order of its parts, and last the answer
@@ -38,16 +39,6 @@ Holds (pathTurned g s r answer) = pathTurn g s r ≡ answer
 Holds (unitTurned d l f answer) = unitTurn d f l ≡ answer
 Holds (settled v k answer) = settleZ v k ≡ answer
 Holds (folded ahead d limit answer other otherAnswer) = FoldAnswer ahead d limit answer × FoldAnswer ahead other limit otherAnswer
-
-abbrev pub AllHold : List Row → Type 0
-AllHold [] = Unit {0}
-AllHold (r ∷ rs) = Holds r × AllHold rs
-
-abbrev pub neg : ℕ → ℤ
-neg n = negℤ (pos n)
-
-abbrev pub vec : ℤ → ℤ → Vec2
-vec a b = record { x = a; y = b }
 
 -- the heading and the move that a path turn answers
 abbrev pub turnedTo : Vec2 → Vec2 → PathTurn
@@ -77,4 +68,4 @@ workedRows =
 -- the claim
 pub record WorkedRows : Type 0 where
   pub eleven : length workedRows ≡ 11
-  pub hold : AllHold workedRows
+  pub hold : AllHold Holds workedRows

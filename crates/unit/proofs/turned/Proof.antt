@@ -4,7 +4,7 @@ use borrow.Author.Needs.{needs}
 use Rattle.exact.proofs.Machine.{reread}
 use Rattle.plane.specs.Settle.{Settleable}
 use Rattle.unit.specs.Turn.{turnedBy}
-use Rattle.unit.proofs.Turning.{turnable-drawable}
+use Rattle.unit.proofs.Turning.{mirrored-settleable}
 use Rattle.unit.proofs.UnitSizes.{turnable-mirrorable}
 use Rattle.unit.proofs.turned.Statement.{statement}
 use Rattle.unit.proofs.turned.Tie as tie
@@ -18,7 +18,7 @@ mirrored-vector-requires c κs = turnable-mirrorable (c .args .d) (c .args .f) (
 settle-requires : tie.Need-settle-requires
 settle-requires c κs =
     let s = c .before in
-    subst₂ Settleable (sym (c .mirrored-vector .ensures)) (sym (exact-l s)) (turnable-drawable (s .args .d) (s .args .f) (s .args .l) (s .pre) .rounded)
+    subst₂ Settleable (sym (c .mirrored-vector .ensures)) (sym (exact-l s)) (mirrored-settleable (s .args .d) (s .args .f) (s .args .l) (s .pre))
 
 returns : tie.Need-returns
 unfolding turnedBy

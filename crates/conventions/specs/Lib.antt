@@ -1,0 +1,2 @@
+pub mod Rigs
+pub mod Conventions
