@@ -1,3 +1,4 @@
 pub mod Ends
 pub mod Points
 pub mod Requires
+pub mod Worked

@@ -7,6 +7,7 @@ ghost use Rattle.exact.specs.Size.{Within};
 ghost use Rattle.points.specs.Ends.{frontOf, rearOf};
 ghost use Rattle.points.specs.Points.{rowAt, pointAt, endOf, alongOf, halfWidth, sideOf, offsetFrom, rigPoints};
 ghost use Rattle.points.specs.Requires.{RigAt, OffsetSized, Measured};
+ghost use Rattle.points.specs.Worked.{WorkedPoints};
 
 // An end of the rig that points are measured from, with the vector and the wheelbase of its unit.
 pub struct End {
@@ -190,3 +191,8 @@ pub fn points(v: Vehicle, d: [Vec2; 4], front: Vec2) -> [Vec2; POINT_COUNT]
     }
     all
 }
+
+// Claim: the six points of three worked rigs lie where the paper's table puts them.
+pub fn worked_points()
+    ensures { λ _. ⌜ WorkedPoints ⌝ }
+{}
