@@ -1,4 +1,3 @@
-pub mod Example
 pub mod CallsKept
 pub mod HistoryLaws
 pub mod HistoryKept
@@ -7,5 +6,6 @@ pub mod RunFollows
 pub mod RunKept
 pub mod WidestKept
 pub mod RunWidest
+pub mod Example
 pub mod WorkedRun
-pub mod WidestLaws
+pub mod HistoryClaims
