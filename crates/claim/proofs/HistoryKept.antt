@@ -16,6 +16,7 @@ use Rattle.points.specs.Points.{rigPoints}
 use Rattle.reaches.specs.declared.Cell.{Cell}
 use Rattle.reaches.specs.Cells.{Reaches, cellAt, clearedCell, cleared}
 use Rattle.reaches.specs.Crossing.{hasBit, crossedFrom, crossed}
+use Rattle.reaches.specs.Widest.{sixPoints, complete}
 use Rattle.reaches.specs.Inner.{Room}
 use Rattle.reaches.proofs.CellLaws.{SameLengths, cell-below, stations-lengths, lengths-of, same-room}
 use Rattle.walk.specs.Tests.{lent, pathSound, vehicleSound}
@@ -26,10 +27,9 @@ use Rattle.run.proofs.WalkingLaws.{same-call}
 use Rattle.claim.proofs.CallsKept.{none-refused, passed}
 use Rattle.stations.specs.Stepping.{pointsAt, ifMade, StepEnsures}
 use Rattle.claim.specs.DemandThree.{Turn, Chain}
-use Rattle.claim.specs.StationHistory.{Moves, movesIn, madeMoves, everCrossed, entering, leastOf, greatestOf, Kept, History, placeCall, leftBy, MadeOver, runsLeft, Lawful, movesOf, runsOf, StationHistory}
+use Rattle.claim.specs.StationHistory.{Moves, movesIn, madeMoves, everCrossed, entering, leastOf, greatestOf, AllCrossed, Kept, History, placeCall, leftBy, MadeOver, runsLeft, Lawful, movesOf, runsOf}
 use Rattle.claim.proofs.WholeRig.{all-set, set-all}
 use Rattle.claim.proofs.HistoryLaws.{KeptFrom, kept-none, kept-more}
-use Rattle.claim.proofs.Example.{example, example-lawful}
 
 pub six-points : (s : Drawn) (c : Call) → length (pointsAt s c) ≡ 6
 unfolding rigPoints
@@ -122,6 +122,14 @@ placed-lent : (v : Vehicle) (c : Call) → placeRefusal v c ≡ 0 → lent c ≡
 unfolding placeRefusal
 placed-lent v c e = passed (lent c) (pathSound (c .asked) (c .path)) (vehicleSound v) e .0
 
+-- bits for just the points that crossed: the station is complete just where the whole rig has crossed it
+module _ (s : Station) (ms : List Moves) (c : Cell) (bit : (p : ℕ) → p < 6 → hasBit p (c .mark) ≡ everCrossed p s ms) where
+  only-whole : AllCrossed s ms → complete sixPoints c ≡ true
+  only-whole a = all-set c (λ p l. bit p l ∙ a p l)
+
+  is-whole : complete sixPoints c ≡ true → AllCrossed s ms
+  is-whole w p l = sym (bit p l) ∙ set-all c w p l
+
 -- from a cleared cell
 pub from-cleared : (s : Station) (ms : List Moves) (c0 c : Cell) → c0 ≡ clearedCell → KeptFrom s ms c0 c → Kept s ms c
 from-cleared s ms c0 c e k =
@@ -131,8 +139,8 @@ from-cleared s ms c0 c e k =
       bits = bit;
       left = k .left ∙ ap (λ (x : Cell). leastOf (x .left) (entering s ms)) e;
       right = k .right ∙ ap (λ (x : Cell). greatestOf (x .right) (entering s ms)) e;
-      whole = λ w p l. sym (bit p l) ∙ set-all c w p l;
-      onlyWhole = λ a. all-set c (λ p l. bit p l ∙ a p l);
+      whole = is-whole s ms c bit;
+      onlyWhole = only-whole s ms c bit;
     }
 
 -- runs that were cleared have room, and each station asked for is cleared
@@ -174,13 +182,10 @@ module _ (h : History) (l : Lawful h) where
       rw (same-call (h .asked) (h .path) a, same-call (h .asked) (h .path) b) call-lent
 
 -- a refused call
-left-as-was : (w : Walk) (t : Turn) → StepEnsures w (t .call) (t .before) (t .result) (t .after) → (outcomeOf (t .result .answer) ≡ made → ⊥) → t .after ≡ t .before
+pub left-as-was : (w : Walk) (t : Turn) → StepEnsures w (t .call) (t .before) (t .result) (t .after) → (outcomeOf (t .result .answer) ≡ made → ⊥) → t .after ≡ t .before
 left-as-was w t k n = k .runs ∙ by _ (drawStep (view w) (t .call) .answer) (ap (λ (z : Stepped). z .answer) (k .stepped))
   where
     by : (x : Reaches) (o : Outcome) → outcomeOf (t .result .answer) ≡ o → ifMade o x (t .before) ≡ t .before
     by x made q = absurd (n q)
     by x (refused m) q = refl
     by x (refusedAt m u) q = refl
-
-pub station-history : StationHistory
-station-history = record { kept = kept; left = left-as-was; some = (example, example-lawful, refl) }

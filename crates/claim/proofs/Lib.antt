@@ -1,4 +1,3 @@
-pub mod Example
 pub mod CallsKept
 pub mod HistoryLaws
 pub mod HistoryKept
@@ -7,11 +6,12 @@ pub mod RunFollows
 pub mod RunKept
 pub mod WidestKept
 pub mod RunWidest
+pub mod Example
 pub mod WorkedRun
-pub mod WidestLaws
 pub mod LaidLaws
 pub mod NeverLaws
 pub mod CallsMade
 pub mod CallsThere
 pub mod RefusedThere
 pub mod CallsWitness
+pub mod HistoryClaims

@@ -25,7 +25,7 @@ use Rattle.reaches.specs.Crossing.{crossed, crossedFrom}
 use Rattle.reaches.specs.Inner.{Room}
 use Rattle.reaches.proofs.CellLaws.{stations-lengths, same-room}
 use Rattle.stations.specs.Placing.{callOf, startHeading, unlessRefused}
-use Rattle.stations.specs.Stepping.{pointsAt, ifMade}
+use Rattle.stations.specs.Stepping.{ifMade}
 use Rattle.stations.proofs.Entering.{room-of}
 use Rattle.stations.proofs.StepLaws.{refused-not-made, unit-not-made}
 use Rattle.run.specs.declared.Finish.{Finish}
@@ -38,9 +38,9 @@ use Rattle.run.proofs.RunLaws.{runnable}
 use Rattle.claim.specs.DemandThree.{drawnAnswers}
 use Rattle.claim.specs.StationHistory.{Moves, movesIn, madeMoves}
 use Rattle.claim.specs.WholeRun.{Run, Ensured}
-use Rattle.claim.specs.WidestHistory.{Tells, Finished}
+use Rattle.claim.specs.WidestHistory.{Tells, FinishTold}
 use Rattle.claim.proofs.HistoryLaws.{KeptFrom, kept-none}
-use Rattle.claim.proofs.HistoryKept.{six-points, after-call, from-cleared, cleared-room, cleared-cell}
+use Rattle.claim.proofs.HistoryKept.{six-points, after-call, from-cleared, cleared-cell}
 use Rattle.claim.proofs.WidestKept.{best-tells}
 
 -- a made call advances the station by one
@@ -121,20 +121,20 @@ finished-course n path (refused m) s r f e = absurd (let z : _≡_ {A = ℕ} 0 1
 finished-course n path (refusedAt m u) s r f e = absurd (let z : _≡_ {A = ℕ} 0 1 = cc in omega arith)
 
 -- nothing refused: the tests that were passed
-all-passed : (a b d : Bool) (f : ℕ) → eqb f 0 ≡ a → pick a (pick (b && d) 0 21) f ≡ 0 → (f ≡ 0) × (b ≡ true) × (d ≡ true)
-all-passed true b d f t e = let p = both b d (by (b && d) e) in (eqb-true f 0 t, p .0, p .1)
+tests-passed : (a b d : Bool) (f : ℕ) → eqb f 0 ≡ a → pick a (pick (b && d) 0 21) f ≡ 0 → (f ≡ 0) × (b ≡ true) × (d ≡ true)
+tests-passed true b d f t e = let p = both b d (by (b && d) e) in (eqb-true f 0 t, p .0, p .1)
   where
     by : (x : Bool) → _≡_ {A = ℕ} (pick x 0 21) 0 → x ≡ true
     by true q = refl
     by false q = absurd (omega arith)
-all-passed false b d f t e = let w : true ≡ false = sym (eq-eqb f 0 e) ∙ t in absurd (let z : _≡_ {A = ℕ} 0 1 = cc in omega arith)
+tests-passed false b d f t e = let w : true ≡ false = sym (eq-eqb f 0 e) ∙ t in absurd (let z : _≡_ {A = ℕ} 0 1 = cc in omega arith)
 
-none-refused : (j : Job) (p : PathRuns) (r : Reaches) → runRefusal j p r ≡ 0
+run-passed : (j : Job) (p : PathRuns) (r : Reaches) → runRefusal j p r ≡ 0
     → (judge j ≡ 0) × (roomFor (length (stations j)) p ≡ true) × (reachesLent (length (stations j)) (lengthsOf r) ≡ true)
 unfolding runRefusal
-none-refused j p r e = all-passed (eqb (judge j) 0) (roomFor (length (stations j)) p) (reachesLent (length (stations j)) (lengthsOf r)) (judge j) refl e
+run-passed j p r e = tests-passed (eqb (judge j) 0) (roomFor (length (stations j)) p) (reachesLent (length (stations j)) (lengthsOf r)) (judge j) refl e
 
-pub ran-told : (x : Run) → Ensured x → (f : Finish) → x .answer ≡ R.Finished f → Finished x f
+pub ran-told : (x : Run) → Ensured x → (f : Finish) → x .answer ≡ R.Finished f → FinishTold x f
 ran-told x h f e =
     let j = x .job in
     let n = length (stations j) in
@@ -145,7 +145,7 @@ ran-told x h f e =
     let a = finished-answer (runRefusal j (x .path) (x .reaches)) (ranOver n laid course) f (sym (h .answered) ∙ e) in
     let b = finished-course n laid (course .answer) (course .state) (course .runs) f (a .1) in
     let path : x .pathLeft ≡ laid = h .path ∙ ap (λ (m : ℕ). unlessRefused m laid (x .path)) (a .0) in
-    let t = none-refused j (x .path) (x .reaches) (a .0) in
+    let t = run-passed j (x .path) (x .reaches) (a .0) in
     let room = room-of n laid (x .reaches) (runnable j (x .path) n laid (laid-answered j (x .path) (t .0) (t .1)) (x .reaches) (t .2) .lent) in
     let l = stations-lengths (λ i c. clearedCell) n (x .reaches) in
     let w = through n laid (stepsLeft n start) start (cleared n (x .reaches)) call (same-call n laid l) (same-room l room) (b .0) in
@@ -159,7 +159,7 @@ ran-told x h f e =
     record {
       path = path;
       steps = omega (arith, steps, least);
-      made = subst (λ (p : PathRuns). drawnAnswers (from p) (calls p (f .steps)) ≡ replicate (f .steps) made) (sym path)
+      answers = subst (λ (p : PathRuns). drawnAnswers (from p) (calls p (f .steps)) ≡ replicate (f .steps) made) (sym path)
           (subst (λ (k : ℕ). drawnAnswers start (calls laid k) ≡ replicate k made) steps (w .answers));
       widest = subst (λ (p : PathRuns). Tells Found Nothing n p (madeMoves (from p) (calls p (f .steps))) (f .widest)) (sym path)
           (subst (λ (k : ℕ). Tells Found Nothing n laid (madeMoves start (calls laid k)) (f .widest)) steps

@@ -1,10 +1,8 @@
 -- The widest place of runs whose stations have kept what the moves gave them is that of the moves.
-use Prim.Native.Nat.{ℕ, _+_, _<_}
+use Prim.Native.Nat.{ℕ, _<_}
 use mathlib.Core.Path.{_≡_, refl, sym, _∙_, ap, ap₂, subst}
 use mathlib.Core.Bool.{true, false}
 use mathlib.Core.List.{List}
-use mathlib.Core.Logic.{⊎-elim}
-use native.Mathlib.Nat.{eq-or-lt-of-le}
 use native.Mathlib.Decide.{decLt}
 use native.Mathlib.Omega.{arith}
 use lib.IntN.{ℤ, _-ℤ_}
@@ -18,9 +16,9 @@ use Rattle.reaches.specs.declared.Best.the-variants.{Nothing, Found}
 use Rattle.reaches.specs.declared.WidestAnswer.{WidestAnswer}
 use Rattle.reaches.specs.declared.WidestAnswer.the-variants as W
 use Rattle.reaches.specs.Cells.{Reaches, cellAt}
-use Rattle.reaches.specs.Widest.{sixPoints, complete, width, widestAmong, answerOf, widestAnswer, IsWidest as IsWidestIn}
+use Rattle.reaches.specs.Widest.{sixPoints, width, widestAmong, answerOf, widestAnswer, IsWidest as IsWidestIn}
 use Rattle.reaches.proofs.WidestLaws.{Right, among-right}
-use Rattle.claim.specs.StationHistory.{Moves, leftOf, rightOf, AllCrossed, Kept, History, Lawful, movesOf, runsOf}
+use Rattle.claim.specs.StationHistory.{Moves, leftOf, rightOf, Kept, History, Lawful, movesOf, runsOf}
 use Rattle.claim.specs.WidestHistory.{widthOf, IsWidest, NoneWhole, Tells}
 use Rattle.claim.proofs.HistoryKept.{kept, left-lent}
 use Rattle.claim.proofs.RunKept.{read-off}
@@ -60,21 +58,29 @@ module _ (asked : ℕ) (path : PathRuns) (ms : List Moves) where
     answeredBy Nothing = none
     answeredBy (Found p) = at p
 
-    pub tells : (b : Best) → RightOf b → Tells at none asked path ms (answeredBy b)
-    tells Nothing h = record {
+    tells-one : (b : Best) → RightOf b → Tells at none asked path ms (answeredBy b)
+    tells-one Nothing h = record {
       place = λ p e. absurd (apart p (sym e));
       onlyPlace = λ p w. absurd (h (p .station) (w .inside) (w .whole));
       nowhere = λ e. h;
       onlyNowhere = λ n. refl;
       noOther = λ n. refl;
     }
-    tells (Found q) h = record {
+    tells-one (Found q) h = record {
       place = λ p e. subst (IsWidest asked path ms) (inside q p e) h;
       onlyPlace = λ p w. ap at (unique q p h w);
       nowhere = λ e. absurd (apart q e);
       onlyNowhere = λ n. absurd (n (q .station) (h .inside) (h .whole));
       noOther = λ n. absurd (n q refl);
     }
+
+    -- and a function that answers so
+    pub tells : (f : Best → A) → f Nothing ≡ none → ((p : Place) → f (Found p) ≡ at p) → (b : Best) → RightOf b → Tells at none asked path ms (f b)
+    tells f n p b h = subst (Tells at none asked path ms) (same b) (tells-one b h)
+      where
+        same : (x : Best) → answeredBy x ≡ f x
+        same Nothing = sym n
+        same (Found q) = sym (p q)
 
   -- runs that have kept it all
   module _ (r : Reaches) (k : (i : ℕ) → i < asked → Kept (stationAt path i) ms (cellAt i r)) where
@@ -101,21 +107,12 @@ module _ (asked : ℕ) (path : PathRuns) (ms : List Moves) where
     among-told : RightOf (widestAmong sixPoints asked r)
     among-told = best-right (widestAmong sixPoints asked r) (among-right sixPoints asked r)
 
-    -- as a run answers it
+    -- as a run answers it, and as `widest` does
     pub best-tells : Tells Found Nothing asked path ms (widestAmong sixPoints asked r)
-    best-tells = by (widestAmong sixPoints asked r) among-told
-      where
-        by : (b : Best) → RightOf b → Tells Found Nothing asked path ms b
-        by Nothing h = tells Found Nothing (λ p q e. cc) (λ p e. let y : _≡_ {A = ℕ} 0 1 = cc in omega arith) Nothing h
-        by (Found p) h = tells Found Nothing (λ p q e. cc) (λ p e. let y : _≡_ {A = ℕ} 0 1 = cc in omega arith) (Found p) h
+    best-tells = tells Found Nothing (λ p q e. cc) (λ p e. let y : _≡_ {A = ℕ} 0 1 = cc in omega arith) (λ b. b) refl (λ p. refl) (widestAmong sixPoints asked r) among-told
 
-    -- as `widest` answers it
     pub answer-tells : Tells W.At (W.Refused 24) asked path ms (answerOf (widestAmong sixPoints asked r))
-    answer-tells = by (widestAmong sixPoints asked r) among-told
-      where
-        by : (b : Best) → RightOf b → Tells W.At (W.Refused 24) asked path ms (answerOf b)
-        by Nothing h = tells W.At (W.Refused 24) (λ p q e. cc) (λ p e. let y : _≡_ {A = ℕ} 0 1 = cc in omega arith) Nothing h
-        by (Found p) h = tells W.At (W.Refused 24) (λ p q e. cc) (λ p e. let y : _≡_ {A = ℕ} 0 1 = cc in omega arith) (Found p) h
+    answer-tells = tells W.At (W.Refused 24) (λ p q e. cc) (λ p e. let y : _≡_ {A = ℕ} 0 1 = cc in omega arith) answerOf refl (λ p. refl) (widestAmong sixPoints asked r) among-told
 
 pub asked-told : (h : History) → Lawful h → (answer : WidestAnswer) → answer ≡ widestAnswer sixPoints (h .asked) (runsOf h)
     → Tells W.At (W.Refused 24) (h .asked) (h .path) (movesOf h) answer

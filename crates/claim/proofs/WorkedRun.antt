@@ -1,5 +1,4 @@
 -- The worked job runs to its end on seven runs of fourteen entries, by computing.
-use Prim.Native.Nat.{ℕ}
 use mathlib.Core.Path.{refl}
 use mathlib.Core.List.{List}
 use lib.ListN.{replicate}

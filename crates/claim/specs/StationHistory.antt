@@ -131,5 +131,5 @@ answersOf h = map (λ (t : Turn). outcomeOf (t .result .answer)) (h .turns)
 -- a refused call leaves the runs that it was lent, so those of the placement stay where it was lent them; and there are such calls, refused ones between made ones
 pub record StationHistory : Type 0 where
   pub kept : (h : History) → Lawful h → (i : ℕ) → i < h .asked → Kept (stationAt (h .path) i) (movesOf h) (cellAt i (runsOf h))
-  pub left : (w : Walk) (t : Turn) → StepEnsures w (t .call) (t .before) (t .result) (t .after) → (outcomeOf (t .result .answer) ≡ made → ⊥) → t .after ≡ t .before
-  pub some : (h : History) × Lawful h × (answersOf h ≡ made ∷ refused 21 ∷ refused 26 ∷ made ∷ refused 27 ∷ refusedAt 22 1 ∷ made ∷ refused 25 ∷ [])
+  pub refusedLeaves : (w : Walk) (t : Turn) → StepEnsures w (t .call) (t .before) (t .result) (t .after) → (outcomeOf (t .result .answer) ≡ made → ⊥) → t .after ≡ t .before
+  pub someCalls : (h : History) × Lawful h × (answersOf h ≡ made ∷ refused 21 ∷ refused 26 ∷ made ∷ refused 27 ∷ refusedAt 22 1 ∷ made ∷ refused 25 ∷ [])

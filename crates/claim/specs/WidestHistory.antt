@@ -59,10 +59,10 @@ abbrev pub runCalls : Run → ℕ → List Call
 runCalls x n = replicate n (runCall x)
 
 -- a finished run: the job's stations stand in the path's runs; of as many calls as it has steps the drawn rig makes each and has come to the last station; the widest place is that of these moves
-pub record Finished (x : Run) (f : Finish) : Type 0 where
+pub record FinishTold (x : Run) (f : Finish) : Type 0 where
   pub path : x .pathLeft ≡ written (stations (x .job)) (x .path)
   pub steps : f .steps + 1 ≡ length (stations (x .job))
-  pub made : drawnAnswers (runStart x) (runCalls x (f .steps)) ≡ replicate (f .steps) made
+  pub answers : drawnAnswers (runStart x) (runCalls x (f .steps)) ≡ replicate (f .steps) made
   pub widest : Tells Found Nothing (length (stations (x .job))) (x .pathLeft) (madeMoves (runStart x) (runCalls x (f .steps))) (f .widest)
 
 -- stations are as wide as each other: the lowest number is answered, of a rig 2,000 ticks wide on a straight
@@ -74,7 +74,7 @@ lowest = record { station = 1; width = pos 2000; left = negsuc 999; right = pos 
 pub record WidestHistory : Type 0 where
   pub asked : (h : History) → Lawful h → (answer : WidestAnswer) → answer ≡ widestAnswer sixPoints (h .asked) (runsOf h)
       → Tells W.At (W.Refused 24) (h .asked) (h .path) (movesOf h) answer
-  pub ran : (x : Run) → Ensured x → (f : Finish) → x .answer ≡ R.Finished f → Finished x f
+  pub ran : (x : Run) → Ensured x → (f : Finish) → x .answer ≡ R.Finished f → FinishTold x f
   pub someTie : (h : History) × Lawful h × (widestAnswer sixPoints (h .asked) (runsOf h) ≡ W.At lowest)
       × AllCrossed (stationAt (h .path) 2) (movesOf h) × (widthOf (stationAt (h .path) 2) (movesOf h) ≡ pos 2000)
   pub someNone : (h : History) × Lawful h × (widestAnswer sixPoints (h .asked) (runsOf h) ≡ W.Refused 24)

@@ -1,5 +1,5 @@
 -- `claim::station_history` meets its contract.
-use Rattle.claim.proofs.HistoryKept.{station-history}
+use Rattle.claim.proofs.HistoryClaims.{station-history}
 use Rattle.claim.proofs.station_history.Statement.{statement}
 use Rattle.claim.proofs.station_history.Tie as tie
 

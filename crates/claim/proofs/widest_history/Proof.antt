@@ -1,5 +1,5 @@
 -- `claim::widest_history` meets its contract.
-use Rattle.claim.proofs.WidestLaws.{widest-history}
+use Rattle.claim.proofs.HistoryClaims.{widest-history}
 use Rattle.claim.proofs.widest_history.Statement.{statement}
 use Rattle.claim.proofs.widest_history.Tie as tie
 

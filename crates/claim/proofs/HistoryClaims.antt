@@ -1,18 +1,20 @@
--- The claim about the widest place, and examples of what it speaks of.
-use Prim.Native.Nat.{ℕ}
-use mathlib.Core.Path.{refl, sym, _∙_, ap₂}
+-- The claims about the history of a walk, with examples of what they speak of.
+use mathlib.Core.Path.{refl, sym, ap₂}
 use native.Mathlib.Omega.{arith}
 use lib.IntN.{ℤ, _-ℤ_}
 use Rattle.walk.specs.Drawn.{stationAt}
 use Rattle.reaches.specs.Cells.{cellAt}
 use Rattle.reaches.specs.Widest.{widestAmong, widestLent, widestAnswer}
-use Rattle.claim.specs.StationHistory.{runsLeft, Kept, movesOf, runsOf}
+use Rattle.claim.specs.StationHistory.{runsLeft, Kept, movesOf, runsOf, StationHistory}
 use Rattle.claim.specs.WidestHistory.{WidestHistory}
-use Rattle.claim.proofs.Example.{example, example-lawful, noCalls, no-calls-lawful}
-use Rattle.claim.proofs.HistoryKept.{kept}
+use Rattle.claim.proofs.HistoryKept.{kept, left-as-was}
 use Rattle.claim.proofs.WidestKept.{asked-told}
 use Rattle.claim.proofs.RunWidest.{ran-told}
+use Rattle.claim.proofs.Example.{example, example-lawful, noCalls, no-calls-lawful}
 use Rattle.claim.proofs.WorkedRun.{workedRun, worked-ensured}
+
+pub station-history : StationHistory
+station-history = record { kept = kept; refusedLeaves = left-as-was; someCalls = (example, example-lawful, refl) }
 
 pub widest-history : WidestHistory
 unfolding runsLeft widestAmong widestLent widestAnswer
