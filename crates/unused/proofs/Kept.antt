@@ -20,7 +20,7 @@ use Rattle.run.specs.Walking.{Course}
 use Rattle.run.specs.declared.Ran.{Ran}
 use Rattle.run.specs.Run.{ranBy, ranOver, runRefusal, jobPath, jobCourse, RunEnsures}
 use Rattle.unused.specs.Same.{SameVehicle, SameJob, SameRig}
-use Rattle.unused.specs.Unused.{SamePlacing, SameStep, SameRun, Unused}
+use Rattle.unused.specs.Unused.{SameCall, SameRun, Unused}
 use Rattle.unused.proofs.SameJobs.{vehicle-fault, emptied, fault, bytes, laid-stations, laid-answer, laid-runs}
 use Rattle.unused.proofs.SameWalks.{vehicle-sound, started, points-same, stepped, AlikeCourse, walked}
 
@@ -32,7 +32,7 @@ unless-same : (n : ℕ) {s t s' t' : Drawn} → SameRig s t → SameRig s' t' �
 unless-same zero a b = a
 unless-same (suc n) a b = b
 
-placing : (v u : Vehicle) → SameVehicle v u → (w x : Walk) → SameRig (view w) (view x) → (c : Call) (before : Reaches) (r q : Placing) (after other : Reaches) → PlaceEnsures v w c before r after → PlaceEnsures u x c before q other → SamePlacing r q after other
+placing : (v u : Vehicle) → SameVehicle v u → (w x : Walk) → SameRig (view w) (view x) → (c : Call) (before : Reaches) (r q : Placing) (after other : Reaches) → PlaceEnsures v w c before r after → PlaceEnsures u x c before q other → SameCall (r .answer) (q .answer) (r .walk) (q .walk) after other
 placing v u e w x a c before r q after other h g =
     let n = place-refusal v u e c in
     record {
@@ -53,7 +53,7 @@ outcome-same (S.RefusedUnit m i) S.Made e = cc
 outcome-same (S.RefusedUnit m i) (S.Refused n) e = cc
 outcome-same (S.RefusedUnit m i) (S.RefusedUnit n u) e = cc
 
-stepping : (w x : Walk) → SameRig (view w) (view x) → (c : Call) (before : Reaches) (r q : Advanced) (after other : Reaches) → StepEnsures w c before r after → StepEnsures x c before q other → SameStep r q after other
+stepping : (w x : Walk) → SameRig (view w) (view x) → (c : Call) (before : Reaches) (r q : Advanced) (after other : Reaches) → StepEnsures w c before r after → StepEnsures x c before q other → SameCall (r .answer) (q .answer) (r .walk) (q .walk) after other
 stepping w x e c before r q after other h g =
     let d = stepped (view w) (view x) e c in
     let a : outcomeOf (r .answer) ≡ drawStep (view w) c .answer = ap (λ (y : Stepped). y .answer) (h .stepped) in

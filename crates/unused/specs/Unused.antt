@@ -25,16 +25,10 @@ use Rattle.run.specs.declared.Ran.{Ran}
 use Rattle.run.specs.Run.{RunEnsures}
 use Rattle.unused.specs.Same.{SameVehicle, SameJob, SameRig}
 
--- two placements: the same answer and the same runs, and records that agree but for unused units
-pub record SamePlacing (r q : Placing) (after other : Reaches) : Type 0 where
-  pub answer : r .answer ≡ q .answer
-  pub walk : SameRig (view (r .walk)) (view (q .walk))
-  pub runs : after ≡ other
-
--- two step calls likewise
-pub record SameStep (r q : Advanced) (after other : Reaches) : Type 0 where
-  pub answer : r .answer ≡ q .answer
-  pub walk : SameRig (view (r .walk)) (view (q .walk))
+-- two calls: the same answer, records that agree but for unused units, and the same runs
+pub record SameCall {A : Type 0} (a b : A) (w x : Walk) (after other : Reaches) : Type 0 where
+  pub answer : a ≡ b
+  pub walk : SameRig (view w) (view x)
   pub runs : after ≡ other
 
 -- two runs of a whole job: the answer and all seven runs
@@ -44,7 +38,7 @@ pub record SameRun (a b : Ran) (p' q' : PathRuns) (r' s' : Reaches) : Type 0 whe
   pub reaches : r' ≡ s'
 
 pub record Unused : Type 0 where
-  -- a job without a fault is such another of what its record reads as; a job's arrays have their lengths by its type
+  -- a job without a fault agrees so with what its record reads as; a job's arrays have their lengths by its type
   pub emptied : (j : Job) → length (j .vehicle .units) ≡ 4 → length (j .elements) ≡ 64 → judge j ≡ 0 → SameJob j (cleared j)
   pub vehicleFaults : (v u : Vehicle) → SameVehicle v u → vehicleFault v ≡ vehicleFault u
   pub faults : (j k : Job) → SameJob j k → judge j ≡ judge k
@@ -59,11 +53,11 @@ pub record Unused : Type 0 where
   -- placed over the same path and runs; refused, each hands back the record it was handed
   pub placed : (v u : Vehicle) → SameVehicle v u → (w x : Walk) → SameRig (view w) (view x)
       → (c : Call) (before : Reaches) (r q : Placing) (after other : Reaches)
-      → PlaceEnsures v w c before r after → PlaceEnsures u x c before q other → SamePlacing r q after other
+      → PlaceEnsures v w c before r after → PlaceEnsures u x c before q other → SameCall (r .answer) (q .answer) (r .walk) (q .walk) after other
   -- stepped over the same path and runs, so any list of calls goes on alike
   pub stepped : (w x : Walk) → SameRig (view w) (view x)
       → (c : Call) (before : Reaches) (r q : Advanced) (after other : Reaches)
-      → StepEnsures w c before r after → StepEnsures x c before q other → SameStep r q after other
+      → StepEnsures w c before r after → StepEnsures x c before q other → SameCall (r .answer) (q .answer) (r .walk) (q .walk) after other
   -- run on the same seven runs
   pub ran : (j k : Job) → SameJob j k → (p : PathRuns) (r : Reaches) (a b : Ran) (p' q' : PathRuns) (r' s' : Reaches)
       → RunEnsures j p r a p' r' → RunEnsures k p r b q' s' → SameRun a b p' q' r' s'
