@@ -1,5 +1,5 @@
 -- A part that was read, taken from what its reader answers. Assumes nothing.
-use mathlib.Core.Path.{_≡_, refl, _∙_, ap}
+use mathlib.Core.Path.{_≡_, refl}
 use mathlib.Core.List.{List}
 use Rattle.number.specs.Read.{Read, got, refused}
 use Rattle.job.specs.Empty.{emptyUnit, emptyUnits, emptyVehicle, emptyStart, emptyElement, emptyElements, emptyJob}

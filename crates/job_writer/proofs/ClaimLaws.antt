@@ -1,6 +1,6 @@
 -- The claims about reading and writing jobs. Assumes nothing.
 use Prim.Native.Nat.{ℕ, zero, suc, _≤_}
-use mathlib.Core.Path.{_≡_, refl, sym, _∙_, ap}
+use mathlib.Core.Path.{_≡_, refl, sym, _∙_, ap, subst}
 use mathlib.Core.List.{List}
 use native.Mathlib.Omega.{arith}
 use lib.ListN.{length, take}
@@ -23,6 +23,7 @@ use Rattle.job_writer.specs.Claims.{OneEncoding, RecordLength}
 use Rattle.job_writer.specs.declared.Wrote.{Wrote}
 use Rattle.job_writer.specs.declared.Wrote.the-variants as W
 use Rattle.job_writer.proofs.LengthLaws.{record-length}
+use Rattle.job_writer.proofs.RecordCodec.{job}
 use Rattle.job_writer.proofs.RoundTrip.{Back, written-read, read-written, cleared-same}
 use Rattle.job_writer.proofs.Reach.{first-bytes}
 
@@ -60,6 +61,7 @@ one-encoding = record {
   written = λ j before w after k h l.
       let room : length (writeJob j) ≤ length before = omega arith in
       written j before w after k h room;
+  bytes = λ j u e h. let c = cleared-same j u e h in subst Bytes (c .written) (job .bytes (cleared j) (c .judged, c .once));
   accepted = λ j u e h r k. k .answer ∙ read-cleared j u e h;
   write-after-read = λ s r h a before w after k l.
       let b = back s r h a .1 in

@@ -45,7 +45,7 @@ read-written s j e bs h =
     record { judged = o .0; empty = o .1; written = sym (append-nil (writeJob j)) ∙ sym (d ∙ cc); ended = sym (m .2) ∙ n }
 
 -- the first entries of an array survive when the others are emptied
-kept : {A : Type 0} (l us : List A) (n m : ℕ) → length l ≡ m → length us ≡ m → n ≤ m → take n (sets l 0 (take n us)) ≡ take n us
+pub kept : {A : Type 0} (l us : List A) (n m : ℕ) → length l ≡ m → length us ≡ m → n ≤ m → take n (sets l 0 (take n us)) ≡ take n us
 kept l us n m p q h = take-sets l (take n us) n (omega (arith, length-take n us)) (omega arith)
 
 -- emptying what is not in use changes neither the fault nor the bytes, and once is enough

@@ -4,6 +4,7 @@ use mathlib.Core.Path.{_≡_}
 use mathlib.Core.List.{List}
 use lib.ListN.{length, take}
 use lib.Seq.{sets}
+use Rattle.number.specs.Read.{Bytes}
 use Rattle.job.specs.Empty.{cleared}
 use Rattle.job.specs.Faults.{judge}
 use Rattle.job.specs.declared.Job.{Job}
@@ -23,7 +24,8 @@ pub record OneEncoding : Type 0 where
   pub written : (j : Job) (before : List ℕ) (w : Wrote) (after : List ℕ) → WriteEnsures j before w after
       → judge j ≡ 0 → length (writeJob j) ≤ length before
       → (w ≡ W.Bytes (length (writeJob j))) × (after ≡ sets before 0 (writeJob j))
-  -- and its record is accepted, as that job with its unused entries emptied; a job's arrays have their lengths by its type
+  -- and its record, which is bytes, is accepted as that job with its unused entries emptied; a job's arrays have their lengths by its type
+  pub bytes : (j : Job) → length (j .vehicle .units) ≡ 4 → length (j .elements) ≡ 64 → judge j ≡ 0 → Bytes (writeJob j)
   pub accepted : (j : Job) → length (j .vehicle .units) ≡ 4 → length (j .elements) ≡ 64 → judge j ≡ 0
       → (r : JobRead) → ReadEnsures (writeJob j) r → r ≡ record { answer = A.Accepted; job = cleared j }
   -- bytes that read as a job are what the writer makes of it, in any run that has the room

@@ -1,7 +1,7 @@
 -- Reading what was written and writing what was read, for readers put together as the specification puts them together. Assumes nothing.
-use Prim.Native.Nat.{ℕ, _+_}
+use Prim.Native.Nat.{ℕ, zero, suc, _+_}
 use mathlib.Core.Path.{_≡_, refl, sym, _∙_, ap, subst}
-use mathlib.Core.List.{List, [], _++_, append-assoc}
+use mathlib.Core.List.{List, [], _∷_, _++_, append-assoc}
 use mathlib.Core.Bool.{Bool, true, false}
 use native.Mathlib.Omega.{arith}
 use native.Mathlib.Nat.{add-zero}
@@ -9,10 +9,17 @@ use lib.ListN.{length, drop, length-append}
 use lib.Seq.{drop-drop, drop-append-seam}
 use Rattle.number.specs.Read.{Bytes, Read, got, refused, Reader, pick, andThen, _>>=_, return, here, unless}
 
--- r reads what w writes, and what r reads w writes; ok is what a value that was read meets
+-- bytes and more bytes
+pub both-bytes : (s t : List ℕ) → Bytes s → Bytes t → Bytes (s ++ t)
+both-bytes [] t p q i = q i
+both-bytes (b ∷ s) t p q zero = p 0
+both-bytes (b ∷ s) t p q (suc i) = both-bytes s t (λ n. p (suc n)) q i
+
+-- r reads what w writes, which are bytes, and what r reads w writes; ok is what a value that was read meets
 pub record Codec {A : Type 0} (r : Reader A) (w : A → List ℕ) (ok : A → Type 0) : Type 0 where
   pub there : (a : A) → ok a → (s : List ℕ) (at : ℕ) (post : List ℕ) → drop at s ≡ w a ++ post → r s at ≡ got a (at + length (w a))
   pub back : (s : List ℕ) (at : ℕ) (a : A) (e : ℕ) → Bytes s → r s at ≡ got a e → ok a × (drop at s ≡ w a ++ drop e s) × (e ≡ at + length (w a))
+  pub bytes : (a : A) → ok a → Bytes (w a)
 
 -- past a part that was read
 pub past : (s p q : List ℕ) (at : ℕ) → drop at s ≡ p ++ q → drop (at + length p) s ≡ q
@@ -33,6 +40,7 @@ pub returned : {A : Type 0} (b : A) → Codec (return b) (λ a. []) (λ a. a ≡
 returned b = record {
   there = λ a o s at post h. rw (o, add-zero);
   back = λ s at a e bs h. let p : b ≡ a = cc in let q : at ≡ e = cc in (sym p, ap (λ (k : ℕ). drop k s) q, sym q ∙ sym (add-zero at));
+  bytes = λ a o i. omega arith;
 }
 
 -- a value, and then a whole of which it is a part
@@ -57,6 +65,7 @@ bound {A} {B} {r} {w} {ok} {f} {w₂} {ok₂} part c₁ c₂ same = record {
         cc (append-assoc (w v) (w₂ b) (drop e s)),
         omega (arith, length-append (w (part b)) (w₂ b), ap (λ (a : A). length (w a)) p),
       );
+  bytes = λ b o. both-bytes (w (part b)) (w₂ b) (c₁ .bytes (part b) (o .0)) (c₂ (part b) (o .0) .bytes b (o .1));
 }
 
 -- the position, for a later refusal
@@ -64,6 +73,7 @@ pub placed : {A : Type 0} {f : ℕ → Reader A} {w : A → List ℕ} {ok : A �
 placed c = record {
   there = λ a o s at post h. c at .there a o s at post h;
   back = λ s at a e bs h. c at .back s at a e bs h;
+  bytes = c 0 .bytes;
 }
 
 -- a test on the way
@@ -71,6 +81,7 @@ pub tested : {A : Type 0} {r : Reader A} {w : A → List ℕ} {ok : A → Type 0
 tested {A} {r} {w} {ok} t n p c = record {
   there = λ a o s at post h. rw (o .0) (c .there a (o .1) s at post h);
   back = λ s at a e bs h. go t s at a e bs h;
+  bytes = λ a o. c .bytes a (o .1);
 }
   where
     go : (u : Bool) (s : List ℕ) (at : ℕ) (a : A) (e : ℕ) → Bytes s → unless u n p r s at ≡ got a e → ((u ≡ true) × ok a) × (drop at s ≡ w a ++ drop e s) × (e ≡ at + length (w a))
@@ -93,6 +104,7 @@ lastly {A} {B} {r} {w} {ok} t n q g part same c = record {
       let v : f .value ≡ part b = sym (same (f .value)) ∙ ap part (m .1) in
       let x : f .next ≡ e = m .2 in
       ((subst ok v (k .0), (ap t (sym v) ∙ m .0, sym (m .1) ∙ ap g v)), k .1 ∙ cc, sym x ∙ k .2 ∙ ap (λ (a : A). at + length (w a)) v);
+  bytes = λ b o. c .bytes (part b) (o .0);
 }
 
 -- the same bytes in other words
@@ -103,6 +115,7 @@ reworded {A} {r} {w} {ok} w′ e c = record {
   back = λ s at a x bs h.
       let k = c .back s at a x bs h in
       (k .0, k .1 ∙ ap (λ (l : List ℕ). l ++ drop x s) (e a (k .0)), k .2 ∙ ap (λ (l : List ℕ). at + length l) (e a (k .0)));
+  bytes = λ a o. subst Bytes (e a o) (c .bytes a o);
 }
 
 -- a value under a change of form, with a test at its own place
@@ -116,4 +129,5 @@ sifted {A} {B} {r} {w} {ok} g f t n gf fg c = record {
       let v : q .value ≡ f b = sym (fg (q .value)) ∙ ap f (m .1) in
       let x : q .next ≡ e = m .2 in
       ((subst ok v (k .0), ap t (sym (m .1)) ∙ m .0), k .1 ∙ cc, sym x ∙ k .2 ∙ ap (λ (a : A). at + length (w a)) v);
+  bytes = λ b o. c .bytes (f b) (o .0);
 }

@@ -6,7 +6,7 @@ use native.Mathlib.Omega.{arith}
 use lib.ListN.{length, drop, take, length-append}
 use lib.Seq.{sets, sets-eq, take-at}
 use Rattle.number.specs.Read.{Bytes, Read, got, refused, Reader, andThen, many, into, writeMany}
-use Rattle.number.proofs.Codec.{Codec, past, first}
+use Rattle.number.proofs.Codec.{both-bytes, Codec, past, first}
 
 -- k values, each of which meets ok at its state, and an end that is met
 abbrev pub Each : {T A : Type 0} → (T → A → Type 0) → (T → A → T) → (T → List A → Type 0) → ℕ → T → List A → Type 0
@@ -47,8 +47,14 @@ module _ {T A : Type 0} (one : T → Reader A) (w : A → List ℕ) (ok : T → 
       let n₂ : e ≡ q .next + length (writeMany w xs) = k₂ .2 in
       ((k₁ .0, k₂ .0), cc (append-assoc (w x) (writeMany w xs) (drop e s)), omega (arith, length-append (w x) (writeMany w xs), ap length u))
 
+  bytes : (k : ℕ) (t : T) (xs : List A) → Each ok next met k t xs → Bytes (writeMany w xs)
+  unfolding writeMany
+  bytes zero t xs o = l t .bytes xs o
+  bytes (suc k) t [] o = absurd o
+  bytes (suc k) t (x ∷ xs) o = both-bytes (w x) (writeMany w xs) (c t .bytes x (o .0)) (bytes k (next t x) xs (o .1))
+
   pub each : (k : ℕ) (t : T) → Codec (many one next end k t) (writeMany w) (Each ok next met k t)
-  each k t = record { there = there k t; back = back k t }
+  each k t = record { there = there k t; back = back k t; bytes = bytes k t }
 
   -- as many values as were asked for, where the end takes none
   pub each-length : ((t : T) (xs : List A) → met t xs → xs ≡ []) → (k : ℕ) (t : T) (xs : List A) → Each ok next met k t xs → length xs ≡ k
@@ -70,6 +76,7 @@ laid {A} {r} {w} {ok} l n long h c = record {
       let k = c .back s at (f .0) e bs (f .1) in
       let t : f .0 ≡ take n us = sym (take-sets l (f .0) n (long (f .0) (k .0)) h) ∙ ap (take n) (f .2) in
       ((subst ok t (k .0), sym (f .2) ∙ ap (sets l 0) t), k .1 ∙ cc, k .2 ∙ ap (λ (x : List A). at + length (w x)) t);
+  bytes = λ us o. c .bytes (take n us) (o .0);
 }
   where
     through : (r : Read (List A)) (us : List A) (e : ℕ) → into l 0 r ≡ got us e → (xs : List A) × (r ≡ got xs e) × (sets l 0 xs ≡ us)

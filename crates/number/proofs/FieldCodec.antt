@@ -21,6 +21,7 @@ pub recast : {A : Type 0} {r : Reader A} {w : A → List ℕ} {ok : A → Type 0
 recast there back c = record {
   there = λ a o s at post h. c .there a (back a o) s at post h;
   back = λ s at a e bs h. let k = c .back s at a e bs h in (there a (k .0), k .1, k .2);
+  bytes = λ a o. c .bytes a (back a o);
 }
 
 pub both : (a b : Bool) → (a && b) ≡ true → (a ≡ true) × (b ≡ true)

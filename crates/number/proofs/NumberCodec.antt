@@ -12,8 +12,8 @@ use lib.Dec.{ltb}
 use borrow.Author.Tests.{lt-ltb, le-ltb, ltb-true, ltb-false}
 use Rattle.number.specs.Read.{Bytes, Read, got, refused, pick}
 use Rattle.number.specs.Number.{onto, groups, below32, readNumber, writeGroups, writeNumber}
-use Rattle.number.proofs.GroupLaws.{at-last, at-more, onto-pos}
-use Rattle.number.proofs.Codec.{Codec}
+use Rattle.number.proofs.GroupLaws.{pick-by, at-last, at-more, onto-pos}
+use Rattle.number.proofs.Codec.{both-bytes, Codec}
 
 -- what a position holds, from the list that starts there
 pub record Head (s : List ℕ) (at a : ℕ) (r : List ℕ) : Type 0 where
@@ -123,6 +123,19 @@ below from (got v y) x e h = go (ltb v 4294967296) refl h
     go true q g = let p : v ≡ x = cc in (g, omega (arith, ltb-true v 4294967296 q))
     go false q g = absurd (let z : _≡_ {A = ℕ} 0 1 = cc in omega arith)
 
+-- each group is a byte
+one-byte : (b : ℕ) → b < 256 → Bytes (b ∷ [])
+one-byte b h zero = h
+one-byte b h (suc i) = omega arith
+
+group-bytes : (k x : ℕ) → x < 128 ^ suc k → Bytes (writeGroups k x)
+unfolding writeGroups
+group-bytes zero x h = one-byte x (omega arith)
+group-bytes (suc k) x h =
+    pick-by Bytes (ltb x 128) {x = x ∷ []} {y = (x % 128 + 128) ∷ writeGroups k (x / 128)}
+    (λ t. one-byte x (omega (arith, ltb-true x 128 t)))
+    (λ t. both-bytes ((x % 128 + 128) ∷ []) (writeGroups k (x / 128)) (one-byte (x % 128 + 128) (omega arith)) (group-bytes k (x / 128) (omega (arith, pow-suc 128 (suc k)))))
+
 pub number : Codec readNumber writeNumber (λ x. x < 2 ^ 32)
 unfolding readNumber writeNumber
 number = record {
@@ -131,4 +144,5 @@ number = record {
       let b = below at (groups at 5 s at) x e h in
       let k = read-back at 4 s at x e bs (b .0) in
       (b .1, k .1, k .2);
+  bytes = λ x o. group-bytes 4 x (omega arith);
 }

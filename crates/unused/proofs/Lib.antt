@@ -1,0 +1,3 @@
+pub mod SameJobs
+pub mod SameWalks
+pub mod Kept
