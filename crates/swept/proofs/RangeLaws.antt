@@ -5,7 +5,7 @@ use mathlib.Core.Bool.{Bool, true, false}
 use mathlib.Core.List.{List, [], _∷_}
 use mathlib.Core.Logic.{_⊎_, inl, inr}
 use native.Mathlib.Omega.{arith}
-use lib.ListN.{length}
+use lib.ListN.{length, take, length-take}
 use Rattle.number.specs.Read.{Bytes, Read, got, refused as refusedRead, pick}
 use Rattle.number.proofs.PlaceLaws.{Inside}
 use Rattle.plane.specs.declared.Vec2.{Vec2}
@@ -16,6 +16,7 @@ use Rattle.job.specs.Faults.{judge}
 use Rattle.job_reader.specs.Record.{readJob}
 use Rattle.job_reader.proofs.PlaceLaws.{read-inside}
 use Rattle.job_writer.proofs.RoundTrip.{read-written}
+use Rattle.job_writer.proofs.Reach.{first-bytes}
 use Rattle.unit.specs.Turn.{turnedBy, tooFar}
 use Rattle.path.specs.Stations.{stations}
 use Rattle.path.specs.Laying.{PathRuns}
@@ -157,11 +158,11 @@ module _ (j : Job) (sound : judge j ≡ 0) where
 module _ (s : List ℕ) (bytes : Bytes s) where
   answered-so : AnsweredSo s (sweptOf s)
   unfolding sweptOf
-  answered-so = by (readJob s) refl (read-inside s)
+  answered-so = by (readJob s) refl (read-inside s) (subst (Inside (take 1024 s) 10) (first-bytes 1024 s (omega arith)) (read-inside (take 1024 s)))
     where
-      by : (x : Read Job) → readJob s ≡ x → Inside s 10 x → AnsweredSo s (sweptRead x)
-      by (got j e) q i = job-so j (read-written s j e bytes q .judged) s
-      by (refusedRead n p) q i = record { number = (i .least, i .most); place = i .place }
+      by : (x : Read Job) → readJob s ≡ x → Inside s 10 x → Inside (take 1024 s) 10 x → AnsweredSo s (sweptRead x)
+      by (got j e) q i k = job-so j (read-written s j e bytes q .judged) s
+      by (refusedRead n p) q i k = record { number = (i .least, i .most); place = i .place; near = omega (arith, k .place, length-take 1024 s) }
 
   pub told : (a : Swept) → a ≡ sweptOf s → SweptEnsures s a
   told a e = record { answer = e; ranges = subst (AnsweredSo s) (sym e) answered-so }

@@ -26,10 +26,11 @@ pub record StoppedSo (n u k : ℕ) : Type 0 where
   pub unit : (1 ≤ u) × (u ≤ 4)
   pub step : (1 ≤ k) × (k ≤ 2000)
 
--- by 1 to 10, at a byte of the input or at its end
+-- by 1 to 10, at a byte of the input or at its end; however long the input, at one of the first 1,024 or just after them
 pub record RefusedSo (s : List ℕ) (n p : ℕ) : Type 0 where
   pub number : (1 ≤ n) × (n ≤ 10)
   pub place : p ≤ length s
+  pub near : p ≤ 1024
 
 abbrev pub AnsweredSo : List ℕ → Swept → Type 0
 AnsweredSo s (S.Finished f) = FinishedSo f

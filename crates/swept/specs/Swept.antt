@@ -1,8 +1,7 @@
 -- What one job comes to, from its bytes (01, "Rigs to try", the program sweep).
 use Prim.Native.Nat.{ℕ}
-use mathlib.Core.Path.{_≡_}
 use mathlib.Core.List.{List}
-use lib.ListN.{length, take, replicate}
+use lib.ListN.{length, replicate}
 use lib.IntN.{pos}
 use Rattle.number.specs.Read.{Read, got, refused}
 use Rattle.job.specs.declared.Job.{Job}
@@ -40,7 +39,3 @@ sweptRead (refused n p) = S.Refused n p
 
 unfoldable pub sweptOf : List ℕ → Swept
 sweptOf s = sweptRead (readJob s)
-
--- the claim: of a longer input the first 1,024 bytes, which are all that the program reads, decide the answer
-abbrev pub FirstBytes : Type 0
-FirstBytes = (s : List ℕ) → sweptOf s ≡ sweptOf (take 1024 s)

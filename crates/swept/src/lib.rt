@@ -5,8 +5,9 @@ use run::Finish;
 use run::Ran;
 ghost use mathlib.Core.Path.{_≡_};
 ghost use Rattle.job_writer.specs.Inner.{Accepted};
-ghost use Rattle.swept.specs.Swept.{sweptJob, FirstBytes};
+ghost use Rattle.swept.specs.Swept.{sweptJob};
 ghost use Rattle.swept.specs.Ranges.{SweptEnsures};
+ghost use Rattle.swept.specs.Claims.{FirstBytes};
 
 // Finished; stopped at a step, with the refusal, the unit and the step, both counted from 1; or refused, with the byte where the field starts.
 pub enum Swept {
