@@ -6,6 +6,10 @@ use lib.ListN.{take}
 use Rattle.swept.specs.declared.Swept.{Swept}
 use Rattle.swept.specs.Ranges.{SweptEnsures}
 
--- "at most 1,024 bytes" (01, "Rigs to try"): of a longer input the first 1,024, which are all that the program reads, decide the answer
+-- "The program sweep reads one job, at most 1,024 bytes" (01, "Rigs to try")
+abbrev pub bytesRead : ℕ
+bytesRead = 1024
+
+-- of a longer input the bytes that the program reads decide the answer
 abbrev pub FirstBytes : Type 0
-FirstBytes = (s : List ℕ) (r q : Swept) → SweptEnsures s r → SweptEnsures (take 1024 s) q → r ≡ q
+FirstBytes = (s : List ℕ) (r q : Swept) → SweptEnsures s r → SweptEnsures (take bytesRead s) q → r ≡ q
