@@ -2,8 +2,9 @@
  *
  * Each function takes whatever it is handed, ends, and answers a number: 0 where the work is done, else
  * the refusal's. A run is a pointer that is not null and a length in entries; the runs of one call
- * do not overlap. Where the answer run is too short the answer is 21 and nothing is written; entries past
- * those named below are never written. Nothing is kept between calls.
+ * do not overlap. The answer run is written where 0 is answered, and only there; where it is too short,
+ * which is tested first, the answer is 21 and nothing is written. Entries past those named below are never
+ * written. Nothing is kept between calls.
  *
  * Link libturning.a alone; beside it only the C library is needed. One tick is a tenth of a millimetre. */
 #ifndef TURNING_H
@@ -23,13 +24,35 @@ enum {
     TURNING_UNIT_TURN_ENTRIES = 2
 };
 
+/* What turning_sweep and turning_run answer, taken apart: the refusal's number (0 for none); beside 1 to
+ * 10 the byte where the field starts; beside 22 and 23 the unit and the step, both counted from 1. */
+#define TURNING_NUMBER(answered) ((uint32_t)(answered) & 255u)
+#define TURNING_BYTE(answered) ((uint32_t)(answered) >> 8)
+#define TURNING_UNIT(answered) (((uint32_t)(answered) >> 8) & 255u)
+#define TURNING_STEP(answered) ((uint32_t)(answered) >> 16)
+
 /* Walks the job that the bytes are the record of, as the program sweep does.
- *   0         finished: steps; 1 where a station is complete, else 0; station, width, left and right of
- *             the widest (zeros where none is complete); last x, last y
- *   1 to 10   the job is refused: the byte, then seven zeros
- *   22, 23    a step is refused: the unit and the step, both counted from 1, then six zeros
- *   21        the answer run has fewer than 8 entries */
+ *   0                                   finished: steps; 1 where a station is complete, else 0; station,
+ *                                       width, left and right of the widest (zeros where none is
+ *                                       complete); last x, last y
+ *   1 to 10 + 256 * byte                the job is refused
+ *   22 or 23 + 256 * unit + 65536 * step   a step is refused
+ *   21                                  the answer run has fewer than 8 entries */
 uint32_t turning_sweep(const uint8_t *job, size_t job_len, int64_t *answer, size_t answer_len);
+
+/* The same on the caller's seven runs, one entry a station: the stations' places and headings, the least
+ * and greatest reach, and the marks, a bit a point. 2,001 entries each have room for every job.
+ *   0                                   finished: the answer run as above, and the seven runs
+ *   22 or 23 + 256 * unit + 65536 * step   a step is refused: the path stands in its four runs, the other
+ *                                       three are as the steps made before it left them
+ *   1 to 10 + 256 * byte                the job is refused: nothing is written
+ *   21                                  the answer run has fewer than 8 entries, or one of the seven fewer
+ *                                       than the job has stations: nothing is written */
+uint32_t turning_run(const uint8_t *job, size_t job_len,
+                     int32_t *xs, size_t xs_len, int32_t *ys, size_t ys_len,
+                     int32_t *gxs, size_t gxs_len, int32_t *gys, size_t gys_len,
+                     int32_t *left, size_t left_len, int32_t *right, size_t right_len,
+                     uint8_t *marks, size_t marks_len, int64_t *answer, size_t answer_len);
 
 /* Turns the path heading (gx, gy) by a step of s ticks on the radius r: 0 straight, positive right.
  *   0         heading x, heading y, move x, move y

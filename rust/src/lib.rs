@@ -6,13 +6,14 @@ pub mod jobs;
 pub mod product;
 pub mod record;
 pub mod reference;
+pub mod runs;
 
 use std::fmt;
 
 /// What a sweep of one job comes to.
 #[derive(Clone, Copy, Debug, PartialEq, Eq)]
 pub enum Swept {
-    /// The job is turned down, at a byte of the input.
+    /// The job is turned down, at a byte of the input; 21, a lent run too short, stands at byte 0.
     Refused { number: u32, at: usize },
     /// A step is turned down; units and steps are counted from 1.
     Stopped { number: u32, unit: u32, step: u32 },

@@ -1,10 +1,31 @@
 //! The proved static library behind safe functions. `include/turning.h` says what each call answers.
 
+use crate::runs::Runs;
 use crate::Swept;
 
 mod linked {
     extern "C" {
         pub fn turning_sweep(job: *const u8, job_len: usize, answer: *mut i64, answer_len: usize) -> u32;
+        pub fn turning_run(
+            job: *const u8,
+            job_len: usize,
+            xs: *mut i32,
+            xs_len: usize,
+            ys: *mut i32,
+            ys_len: usize,
+            gxs: *mut i32,
+            gxs_len: usize,
+            gys: *mut i32,
+            gys_len: usize,
+            left: *mut i32,
+            left_len: usize,
+            right: *mut i32,
+            right_len: usize,
+            marks: *mut u8,
+            marks_len: usize,
+            answer: *mut i64,
+            answer_len: usize,
+        ) -> u32;
         pub fn turning_path_turn(gx: i64, gy: i64, s: u32, r: i32, answer: *mut i64, answer_len: usize) -> u32;
         pub fn turning_unit_turn(
             dx: i64,
@@ -24,6 +45,34 @@ pub fn sweep_into(job: &[u8], answer: &mut [i64]) -> u32 {
     unsafe { linked::turning_sweep(job.as_ptr(), job.len(), answer.as_mut_ptr(), answer.len()) }
 }
 
+/// The number answered; `answer` needs 8 entries, and each run one for every station of the job, else 21
+/// is answered and nothing written.
+pub fn run_into(job: &[u8], runs: &mut Runs, answer: &mut [i64]) -> u32 {
+    // SAFETY: all runs are borrowed for the call, with their own lengths, and cannot overlap.
+    unsafe {
+        linked::turning_run(
+            job.as_ptr(),
+            job.len(),
+            runs.xs.as_mut_ptr(),
+            runs.xs.len(),
+            runs.ys.as_mut_ptr(),
+            runs.ys.len(),
+            runs.gxs.as_mut_ptr(),
+            runs.gxs.len(),
+            runs.gys.as_mut_ptr(),
+            runs.gys.len(),
+            runs.left.as_mut_ptr(),
+            runs.left.len(),
+            runs.right.as_mut_ptr(),
+            runs.right.len(),
+            runs.marks.as_mut_ptr(),
+            runs.marks.len(),
+            answer.as_mut_ptr(),
+            answer.len(),
+        )
+    }
+}
+
 /// The number answered; `answer` needs 4 entries, else 21 is answered and nothing written.
 pub fn path_turn_into(gx: i64, gy: i64, s: u32, r: i32, answer: &mut [i64]) -> u32 {
     // SAFETY: the run is borrowed for the call, with its own length.
@@ -36,24 +85,50 @@ pub fn unit_turn_into(dx: i64, dy: i64, fx: i64, fy: i64, wheelbase: u32, answer
     unsafe { linked::turning_unit_turn(dx, dy, fx, fy, wheelbase, answer.as_mut_ptr(), answer.len()) }
 }
 
-/// What the eight entries of an answer tell beside its number.
-fn swept(number: u32, answer: [i64; 8]) -> Swept {
-    let [first, second, station, width, left, right, x, y] = answer;
-    match number {
-        0 => {
-            let place = (station as u32, width, left, right);
-            Swept::Finished { steps: first as u32, widest: (second == 1).then_some(place), front: (x, y) }
+/// What the number that `sweep_into` and `run_into` answer tells, as the macros of `include/turning.h` take it apart.
+#[derive(Clone, Copy, Debug, PartialEq, Eq)]
+pub enum Told {
+    /// The answer run is written.
+    Finished,
+    /// 1 to 10 with the byte where the field starts; 21, which names none, with 0.
+    Refused { number: u32, at: usize },
+    /// 22 or 23 with the unit and the step, both counted from 1.
+    Stopped { number: u32, unit: u32, step: u32 },
+}
+
+impl Told {
+    pub fn of(answered: u32) -> Told {
+        match answered & 255 {
+            0 => Told::Finished,
+            number @ 22..=23 => Told::Stopped { number, unit: answered >> 8 & 255, step: answered >> 16 },
+            number => Told::Refused { number, at: answered as usize >> 8 },
         }
-        22 | 23 => Swept::Stopped { number, unit: first as u32, step: second as u32 },
-        _ => Swept::Refused { number, at: first as usize },
+    }
+
+    /// With the eight entries that a finished walk has written.
+    fn with(self, answer: [i64; 8]) -> Swept {
+        match self {
+            Told::Finished => {
+                let [steps, complete, station, width, left, right, x, y] = answer;
+                let place = (station as u32, width, left, right);
+                Swept::Finished { steps: steps as u32, widest: (complete == 1).then_some(place), front: (x, y) }
+            }
+            Told::Refused { number, at } => Swept::Refused { number, at },
+            Told::Stopped { number, unit, step } => Swept::Stopped { number, unit, step },
+        }
     }
 }
 
 /// One job from its bytes to its answer.
 pub fn sweep(job: &[u8]) -> Swept {
     let mut answer = [0; 8];
-    let number = sweep_into(job, &mut answer);
-    swept(number, answer)
+    Told::of(sweep_into(job, &mut answer)).with(answer)
+}
+
+/// The same on lent runs, which hold afterwards what the stations hold.
+pub fn run(job: &[u8], runs: &mut Runs) -> Swept {
+    let mut answer = [0; 8];
+    Told::of(run_into(job, runs, &mut answer)).with(answer)
 }
 
 /// The path turn: heading x, y and move x, y, or 6, 7 or 8.

@@ -2,6 +2,7 @@
 
 use crate::record::{has_length, radius_allowed, read_job, square_of, wheelbase_allowed};
 use crate::record::{Job, Unit, Vehicle, NOMINAL};
+use crate::runs::Runs;
 pub use crate::Swept;
 use std::ops::{Add, Mul, Sub};
 
@@ -197,13 +198,8 @@ fn widest(cells: &[Cell]) -> Option<(u32, i64, i64, i64)> {
     best
 }
 
-/// One job from its bytes to its answer.
-pub fn sweep(bytes: &[u8]) -> Swept {
-    let job = match read_job(bytes) {
-        Ok(job) => job,
-        Err(refusal) => return Swept::Refused { number: refusal.number, at: refusal.at },
-    };
-    let path = lay(&job);
+/// What the walk of a job over its path comes to, and what the stations have kept by then.
+fn walked(job: &Job, path: &[Station]) -> (Swept, Vec<Cell>) {
     let vehicle = &job.vehicle;
     let mut cells = vec![CLEARED; path.len()];
     let mut d: Vec<Vector> =
@@ -213,14 +209,51 @@ pub fn sweep(bytes: &[u8]) -> Swept {
         let (from, to) = (path[k - 1].position, path[k].position);
         d = match turn_units(vehicle, &d, from, to) {
             Ok(new) => new,
-            Err((number, unit)) => return Swept::Stopped { number, unit, step: k as u32 },
+            Err((number, unit)) => return (Swept::Stopped { number, unit, step: k as u32 }, cells),
         };
         let new = points(vehicle, &d, to);
-        cross(&path, &mut cells, &old, &new);
+        cross(path, &mut cells, &old, &new);
         old = new;
     }
     let front = path[path.len() - 1].position;
-    Swept::Finished { steps: path.len() as u32 - 1, widest: widest(&cells), front: (front.x, front.y) }
+    let widest = widest(&cells);
+    (Swept::Finished { steps: path.len() as u32 - 1, widest, front: (front.x, front.y) }, cells)
+}
+
+/// One job from its bytes to its answer.
+pub fn sweep(bytes: &[u8]) -> Swept {
+    match read_job(bytes) {
+        Ok(job) => walked(&job, &lay(&job)).0,
+        Err(refusal) => Swept::Refused { number: refusal.number, at: refusal.at },
+    }
+}
+
+/// How many stations the path of a job has; none where the job is refused.
+pub fn stations(bytes: &[u8]) -> usize {
+    read_job(bytes).map_or(0, |job| lay(&job).len())
+}
+
+/// The same as `sweep` on lent runs: 21 where one has fewer entries than the path has stations. A refusal writes nothing.
+pub fn run(bytes: &[u8], runs: &mut Runs) -> Swept {
+    let job = match read_job(bytes) {
+        Ok(job) => job,
+        Err(refusal) => return Swept::Refused { number: refusal.number, at: refusal.at },
+    };
+    let path = lay(&job);
+    if runs.shortest() < path.len() {
+        return Swept::Refused { number: 21, at: 0 };
+    }
+    let (swept, cells) = walked(&job, &path);
+    for (k, (station, cell)) in path.iter().zip(cells).enumerate() {
+        runs.xs[k] = station.position.x as i32;
+        runs.ys[k] = station.position.y as i32;
+        runs.gxs[k] = station.heading.x as i32;
+        runs.gys[k] = station.heading.y as i32;
+        runs.left[k] = cell.left as i32;
+        runs.right[k] = cell.right as i32;
+        runs.marks[k] = cell.mark;
+    }
+    swept
 }
 
 /// The path turn called by itself: heading x, y and move x, y, or 6, 7 or 8.

@@ -1,9 +1,10 @@
-//! Product against reference: seeded jobs of all kinds, short answer runs, and the two turns.
+//! Product against reference: seeded jobs of all kinds, what they leave in lent runs, short runs, and the two turns.
 //! `TURNING_JOBS` says how many jobs (20,000 where it is not set), `TURNING_SEED` which (1).
 
 use std::collections::BTreeMap;
 use std::time::{Duration, Instant};
 use turning::jobs::{heading, heaviest, some_job, Chance};
+use turning::runs::Runs;
 use turning::{hex_of_bytes, product, reference, Swept};
 
 /// A value that no answer holds, to see what is written.
@@ -22,11 +23,11 @@ fn kind_of(swept: &Swept) -> String {
     }
 }
 
-/// The number and the eight entries that an outcome must be told by.
+/// The number that an outcome must be told by, and the eight entries, which a refusal leaves.
 fn told(swept: &Swept) -> (u32, [i64; 8]) {
     match *swept {
-        Swept::Refused { number, at } => (number, [at as i64, 0, 0, 0, 0, 0, 0, 0]),
-        Swept::Stopped { number, unit, step } => (number, [unit.into(), step.into(), 0, 0, 0, 0, 0, 0]),
+        Swept::Refused { number, at } => (number + 256 * at as u32, [UNWRITTEN; 8]),
+        Swept::Stopped { number, unit, step } => (number + 256 * unit + 65_536 * step, [UNWRITTEN; 8]),
         Swept::Finished { steps, widest, front } => {
             let (k, width, left, right) = widest.unwrap_or((0, 0, 0, 0));
             (0, [steps.into(), widest.is_some().into(), k.into(), width, left, right, front.0, front.1])
@@ -34,17 +35,42 @@ fn told(swept: &Swept) -> (u32, [i64; 8]) {
     }
 }
 
-/// Every entry of the answer is as expected, and those past the eighth are as they were. Answers how long the product took.
+/// Every entry of the answer is as expected, and those past the eighth are as they were.
+fn check_answer(job: &[u8], number: u32, answer: &[i64], expected: &Swept) {
+    let (expected_number, entries) = told(expected);
+    assert_eq!((number, &answer[..8]), (expected_number, &entries[..]), "job {}", hex_of_bytes(job));
+    assert!(answer[8..].iter().all(|entry| *entry == UNWRITTEN), "job {}", hex_of_bytes(job));
+}
+
+/// The answer, entry by entry and taken apart. Answers how long the product took.
 fn check_job(job: &[u8], expected: &Swept, extra: usize) -> Duration {
     let mut answer = vec![UNWRITTEN; 8 + extra];
     let begun = Instant::now();
     let number = product::sweep_into(job, &mut answer);
     let taken = begun.elapsed();
-    let (expected_number, entries) = told(expected);
-    assert_eq!((number, &answer[..8]), (expected_number, &entries[..]), "job {}", hex_of_bytes(job));
-    assert!(answer[8..].iter().all(|entry| *entry == UNWRITTEN), "job {}", hex_of_bytes(job));
+    check_answer(job, number, &answer, expected);
     assert_eq!(product::sweep(job), *expected, "job {}", hex_of_bytes(job));
     taken
+}
+
+/// The answer on lent runs, and all seven of them to the last entry. Answers what the job came to.
+fn check_run(job: &[u8], lent: &Runs, extra: usize) -> Swept {
+    let (mut runs, mut kept, mut expected_runs) = (lent.clone(), lent.clone(), lent.clone());
+    let expected = reference::run(job, &mut expected_runs);
+    let mut answer = vec![UNWRITTEN; 8 + extra];
+    let number = product::run_into(job, &mut runs, &mut answer);
+    check_answer(job, number, &answer, &expected);
+    assert_eq!(runs, expected_runs, "job {}", hex_of_bytes(job));
+    assert_eq!(product::run(job, &mut kept), expected, "job {}", hex_of_bytes(job));
+    assert_eq!(kept, expected_runs, "job {}", hex_of_bytes(job));
+    expected
+}
+
+/// Runs of these lengths, each entry by chance.
+fn some_runs(chance: &mut Chance, lengths: [usize; 7]) -> Runs {
+    let mut run = |length: usize| (0..length).map(|_| chance.word() as i32).collect::<Vec<i32>>();
+    let [xs, ys, gxs, gys, left, right, marks] = lengths.map(&mut run);
+    Runs { xs, ys, gxs, gys, left, right, marks: marks.into_iter().map(|entry| entry as u8).collect() }
 }
 
 #[test]
@@ -69,6 +95,33 @@ fn jobs_are_answered_as_by_the_reference() {
 }
 
 #[test]
+fn lent_runs_are_left_as_by_the_reference() {
+    let count = setting("TURNING_JOBS", 20_000);
+    let mut chance = Chance::new(setting("TURNING_SEED", 1) + 7);
+    let mut kinds: BTreeMap<String, u64> = BTreeMap::new();
+    let most = some_runs(&mut chance, [2_003; 7]);
+    check_run(&heaviest(), &most, 1);
+    for round in 0..count / 4 {
+        let job = some_job(&mut chance);
+        let stations = reference::stations(&job);
+        let mut lengths = [0; 7].map(|_: usize| stations + chance.below(4) as usize);
+        if chance.one_in(4) && stations > 0 {
+            let which = chance.below(7) as usize;
+            lengths[which] = stations - 1 - chance.below(stations as u64) as usize;
+            let lent = some_runs(&mut chance, lengths);
+            assert_eq!(check_run(&job, &lent, 0), Swept::Refused { number: 21, at: 0 });
+            *kinds.entry(format!("refused 21, run {which}")).or_default() += 1;
+        } else {
+            let lent = some_runs(&mut chance, lengths);
+            *kinds.entry(kind_of(&check_run(&job, &lent, round as usize % 4))).or_default() += 1;
+        }
+    }
+    println!("lent runs by outcome: {kinds:?}");
+    // Beside the 19 kinds of outcome, 21 at each of the seven runs.
+    assert!(count < 20_000 || kinds.len() == 26, "some kind of outcome is missing: {kinds:?}");
+}
+
+#[test]
 fn short_answer_runs_are_refused() {
     let mut chance = Chance::new(21);
     for _ in 0..300 {
@@ -77,6 +130,14 @@ fn short_answer_runs_are_refused() {
             let mut answer = vec![UNWRITTEN; length];
             assert_eq!(product::sweep_into(&job, &mut answer), 21);
             assert_eq!(answer, vec![UNWRITTEN; length]);
+            // Tested before the job and before the other runs, which stay.
+            for entries in [0, 2_001] {
+                let lent = some_runs(&mut chance, [entries; 7]);
+                let mut runs = lent.clone();
+                assert_eq!(product::run_into(&job, &mut runs, &mut answer), 21);
+                assert_eq!((answer, runs), (vec![UNWRITTEN; length], lent));
+                answer = vec![UNWRITTEN; length];
+            }
         }
     }
     for length in 0..4 {

@@ -1,2 +1,2 @@
-pub mod SweptLaws
 pub mod RangeLaws
+pub mod SweptLaws

@@ -1,12 +1,12 @@
--- What a job's run can answer: steps, stations and units in their ranges, and no refusal but 22 and 23.
+-- What a job can answer: a run's steps, stations and units in their ranges, with no refusal but 22 and 23; the reader's numbers and bytes.
 use Prim.Native.Nat.{ℕ, zero, suc, _+_, _-_, _≤_, _<_}
-use mathlib.Core.Path.{_≡_, refl, sym, subst}
+use mathlib.Core.Path.{_≡_, refl, sym, _∙_, subst}
 use mathlib.Core.Bool.{Bool, true, false}
 use mathlib.Core.List.{List, [], _∷_}
 use mathlib.Core.Logic.{_⊎_, inl, inr}
 use native.Mathlib.Omega.{arith}
-use lib.ListN.{length}
-use Rattle.number.specs.Read.{Bytes, Read, got, refused as refusedRead, pick}
+use lib.ListN.{length, take, length-take}
+use Rattle.number.specs.Read.{refused as refusedRead, pick}
 use Rattle.number.proofs.PlaceLaws.{Inside}
 use Rattle.plane.specs.declared.Vec2.{Vec2}
 use Rattle.plane.specs.Vector.{minus}
@@ -15,22 +15,22 @@ use Rattle.job.specs.declared.Job.{Job}
 use Rattle.job.specs.Faults.{judge}
 use Rattle.job_reader.specs.Record.{readJob}
 use Rattle.job_reader.proofs.PlaceLaws.{read-inside}
-use Rattle.job_writer.proofs.RoundTrip.{read-written}
+use Rattle.job_writer.proofs.Reach.{first-bytes}
 use Rattle.unit.specs.Turn.{turnedBy, tooFar}
 use Rattle.path.specs.Stations.{stations}
-use Rattle.path.specs.Laying.{PathRuns}
+use Rattle.path.specs.Laying.{PathRuns, roomFor}
 use Rattle.path.proofs.JobLaws.{laid-answered}
 use Rattle.path.proofs.SoundLaws.{sound-path}
 use Rattle.walk.specs.declared.Walk.{Walk}
 use Rattle.walk.specs.Drawn.{Drawn, view, Outcome, made, refused, refusedAt, stationAt}
-use Rattle.walk.specs.Tests.{unitsInUse}
+use Rattle.walk.specs.Tests.{unitsInUse, reachesLent}
 use Rattle.walk.specs.Units.{wheelbaseOf, hitchAt, Ahead, none, behind, foldKept, Turning, turned, stopped, onto, turnUnits}
 use Rattle.walk.specs.Rig.{startVectors, Stepped, turningOf, afterTurning, drawStep}
 use Rattle.walk.proofs.StartKept.{few-units}
 use Rattle.walk.proofs.RecordTests.{sound-record}
 use Rattle.reaches.specs.declared.Best.{Best}
 use Rattle.reaches.specs.declared.Best.the-variants.{Nothing, Found}
-use Rattle.reaches.specs.Cells.{Reaches, cleared}
+use Rattle.reaches.specs.Cells.{Reaches, lengthsOf, cleared}
 use Rattle.reaches.specs.Widest.{sixPoints, widestAmong}
 use Rattle.reaches.specs.Crossing.{crossed, crossedFrom}
 use Rattle.reaches.proofs.CellLaws.{stations-lengths}
@@ -39,14 +39,13 @@ use Rattle.stations.specs.Placing.{callOf}
 use Rattle.stations.specs.Stepping.{pointsAt, ifMade}
 use Rattle.stations.proofs.CallLaws.{step-open}
 use Rattle.run.specs.Walking.{Course, walkOn, Going}
-use Rattle.run.specs.Run.{ranBy, jobPath, jobCourse, Runnable}
+use Rattle.run.specs.declared.Ran.{Ran}
+use Rattle.run.specs.declared.Ran.the-variants as R
+use Rattle.run.specs.Run.{ranBy, ranOver, jobPath, jobCourse, Runnable}
 use Rattle.run.proofs.WalkingLaws.{same-call, is-open, made-step}
 use Rattle.run.proofs.OverLaws.{some-asked, placed-going}
 use Rattle.run.proofs.RunLaws.{runnable}
-use Rattle.swept.specs.declared.Swept.{Swept}
-use Rattle.swept.specs.Swept.{emptyPath, emptyReaches, sweptRun, sweptJob, sweptRead, sweptOf}
-use Rattle.swept.specs.Ranges.{OnPath, AnsweredSo, SweptEnsures}
-use Rattle.swept.proofs.SweptLaws.{path-room, reaches-room}
+use Rattle.swept.specs.Ranges.{OnPath, FinishedSo, StoppedSo, RefusedSo}
 
 -- a unit that stops the others: 22 or 23, and its number
 abbrev StopsIn : ℕ → ℕ → Turning → Type 0
@@ -115,10 +114,16 @@ module _ (asked : ℕ) (path : PathRuns) where
       let last : t .state .station + n ≡ s .station + suc n = omega (arith, q .1) in
       subst (λ (k : ℕ). EndsSo k (walkOn n asked path (t .state) x .answer) (walkOn n asked path (t .state) x .state .station)) last (course-so n (t .state) x going (omega arith)))
 
--- an accepted job's walk, from its placement to its end
-module _ (j : Job) (sound : judge j ≡ 0) where
+-- what a run can answer where nothing is refused
+abbrev pub RanSo : Ran → Type 0
+RanSo (R.Finished f) = FinishedSo f
+RanSo (R.Stopped n u k) = StoppedSo n u k
+RanSo (R.Refused n) = ⊥
+
+-- an accepted job's walk on runs with room, from its placement to its end
+module _ (j : Job) (sound : judge j ≡ 0) (p : PathRuns) (r : Reaches) (room : roomFor (length (stations j)) p ≡ true) (lent : reachesLent (length (stations j)) (lengthsOf r) ≡ true) where
   abbrev path : PathRuns
-  path = jobPath j emptyPath
+  path = jobPath j p
 
   abbrev asked : ℕ
   asked = length (stations j)
@@ -126,42 +131,35 @@ module _ (j : Job) (sound : judge j ≡ 0) where
   abbrev placed : Walk
   placed = record { vehicle = j .vehicle; station = 0; d = startVectors (j .vehicle) (stationAt path 0 .heading) }
 
-  can-run : Runnable (j .vehicle) (callOf asked path emptyReaches)
-  can-run = runnable j emptyPath asked path (laid-answered j emptyPath sound (path-room j sound)) emptyReaches (reaches-room j sound)
+  can-run : Runnable (j .vehicle) (callOf asked path r)
+  can-run = runnable j p asked path (laid-answered j p sound room) r lent
 
   abbrev course : Course
-  course = jobCourse j emptyPath emptyReaches
+  course = jobCourse j p r
 
   walk-so : EndsSo (0 + (asked - 1)) (course .answer) (course .state .station)
   walk-so =
-      let g = placed-going asked path (j .vehicle) emptyReaches can-run placed (cleared asked emptyReaches) refl refl in
-      course-so asked path (asked - 1) (view placed) (cleared asked emptyReaches) g (omega (arith, some-asked asked path (j .vehicle) emptyReaches can-run))
+      let g = placed-going asked path (j .vehicle) r can-run placed (cleared asked r) refl refl in
+      course-so asked path (asked - 1) (view placed) (cleared asked r) g (omega (arith, some-asked asked path (j .vehicle) r can-run))
 
-  widest-so : (r : Reaches) → OnPath (widestAmong sixPoints asked r)
-  widest-so r = by (widestAmong sixPoints asked r) (among-right sixPoints asked r)
+  widest-so : (q : Reaches) → OnPath (widestAmong sixPoints asked q)
+  widest-so q = by (widestAmong sixPoints asked q) (among-right sixPoints asked q)
     where
-      by : (b : Best) → Right sixPoints asked r b → OnPath b
+      by : (b : Best) → Right sixPoints asked q b → OnPath b
       by Nothing h = tt
-      by (Found p) h = omega (arith, h .inside, sound-path j sound .most)
+      by (Found f) h = omega (arith, h .inside, sound-path j sound .most)
 
-  pub job-so : (s : List ℕ) → AnsweredSo s (sweptJob j)
-  unfolding sweptJob
-  job-so s = by (course .answer) (course .state) (course .runs) walk-so
+  pub ran-so : RanSo (ranOver asked path course)
+  ran-so = by (course .answer) (course .state) (course .runs) walk-so
     where
-      by : (o : Outcome) (t : Drawn) (r : Reaches) → EndsSo (0 + (asked - 1)) o (t .station) → AnsweredSo s (sweptRun (ranBy asked path o t r))
-      by made t r h = record { steps = omega (arith, sound-path j sound .most); widest = widest-so r }
-      by (refused n) t r h = absurd h
-      by (refusedAt n u) t r h = record { number = h .0; unit = (h .1, h .2); step = (omega arith, omega (arith, h .3, sound-path j sound .most)) }
+      by : (o : Outcome) (t : Drawn) (q : Reaches) → EndsSo (0 + (asked - 1)) o (t .station) → RanSo (ranBy asked path o t q)
+      by made t q h = record { steps = omega (arith, sound-path j sound .most); widest = widest-so q }
+      by (refused n) t q h = absurd h
+      by (refusedAt n u) t q h = record { number = h .0; unit = (h .1, h .2); step = (omega arith, omega (arith, h .3, sound-path j sound .most)) }
 
--- any bytes
-module _ (s : List ℕ) (bytes : Bytes s) where
-  answered-so : AnsweredSo s (sweptOf s)
-  unfolding sweptOf
-  answered-so = by (readJob s) refl (read-inside s)
-    where
-      by : (x : Read Job) → readJob s ≡ x → Inside s 10 x → AnsweredSo s (sweptRead x)
-      by (got j e) q i = job-so j (read-written s j e bytes q .judged) s
-      by (refusedRead n p) q i = record { number = (i .least, i .most); place = i .place }
-
-  pub told : (a : Swept) → a ≡ sweptOf s → SweptEnsures s a
-  told a e = record { answer = e; ranges = subst (AnsweredSo s) (sym e) answered-so }
+-- a refusal of the reader
+pub refused-so : (s : List ℕ) (n p : ℕ) → readJob s ≡ refusedRead n p → RefusedSo s n p
+refused-so s n p e =
+    let i = subst (Inside s 10) e (read-inside s) in
+    let k = subst (Inside (take 1024 s) 10) (first-bytes 1024 s (omega arith) ∙ e) (read-inside (take 1024 s)) in
+    record { number = (i .least, i .most); place = i .place; near = omega (arith, k .place, length-take 1024 s) }

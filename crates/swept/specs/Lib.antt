@@ -1,2 +1,3 @@
 pub mod Swept
 pub mod Ranges
+pub mod Claims

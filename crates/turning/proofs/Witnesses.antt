@@ -3,7 +3,8 @@ use native.Mathlib.Omega.{arith}
 use lib.IntN.{pos, negsuc}
 use Rattle.reaches.specs.declared.Best.the-variants.{Found}
 use Rattle.run.specs.declared.Finish.{Finish}
-use Rattle.turning.specs.Answers.{Room, FinishFits}
+use Rattle.swept.specs.declared.Swept.the-variants as S
+use Rattle.turning.specs.Inner.{Room, FinishFits, ByteFits, UnitFits, AnswerFits}
 
 abbrev longest : Finish
 longest = record {
@@ -17,3 +18,13 @@ room-met = record { room = omega arith }
 
 finish-met : FinishFits longest 8
 finish-met = record { room = room-met; ranges = record { steps = omega arith; widest = omega arith } }
+
+-- the greatest byte, unit and step
+byte-met : ByteFits 1024
+byte-met = record { byte = omega arith }
+
+unit-met : UnitFits 4 2000
+unit-met = record { unit = omega arith; step = omega arith }
+
+answer-met : AnswerFits (S.Stopped 23 4 2000) 8
+answer-met = record { room = room-met; ranges = unit-met }

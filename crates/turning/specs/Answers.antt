@@ -1,5 +1,5 @@
--- The answers of the functions open to C and Rust: a number, and the entries at the start of a lent run.
-use Prim.Native.Nat.{ℕ, _+_, _≤_}
+-- The answers of the functions open to C and Rust: a number, and the entries at the start of a lent run. A refusal writes none ("nothing is written", 01, "Why a job is turned down").
+use Prim.Native.Nat.{ℕ, _+_, _*_}
 use mathlib.Core.Path.{_≡_}
 use mathlib.Core.List.{List, [], _∷_, _++_}
 use lib.ListN.{length, replicate}
@@ -16,7 +16,6 @@ use Rattle.reaches.specs.declared.Best.the-variants.{Nothing, Found}
 use Rattle.run.specs.declared.Finish.{Finish}
 use Rattle.swept.specs.declared.Swept.{Swept}
 use Rattle.swept.specs.declared.Swept.the-variants as S
-use Rattle.swept.specs.Ranges.{FinishedSo}
 
 -- a number, and the entries written from entry 0 on
 pub record Told : Type 0 where
@@ -25,6 +24,11 @@ pub record Told : Type 0 where
 
 abbrev pub told : ℕ → List ℤ → Told
 told n es = record { number = n; entries = es }
+
+-- a number, and a run whose entries past those written stay
+pub record TellEnsures (t : Told) (before : List ℤ) (n : ℕ) (after : List ℤ) : Type 0 where
+  pub number : n ≡ t .number
+  pub run : after ≡ sets before 0 (t .entries)
 
 -- 21 where the run has too few entries, and nothing is written; the entries past those written stay
 pub record Answered (room : ℕ) (t : Told) (before : List ℤ) (n : ℕ) (after : List ℤ) : Type 0 where
@@ -46,11 +50,18 @@ finishWith b f = pos (f .steps) ∷ (widestEntries b ++ (f .front .x ∷ f .fron
 abbrev pub finishEntries : Finish → List ℤ
 finishEntries f = finishWith (f .widest) f
 
+-- a refusal's number with the byte, or with the unit and the step, in one number
+abbrev pub atByte : ℕ → ℕ → ℕ
+atByte n p = n + 256 * p
+
+abbrev pub atUnit : ℕ → ℕ → ℕ → ℕ
+atUnit n u k = n + 256 * u + 65536 * k
+
 -- 0 finished; a stopped walk's number with the unit and the step; a refused job's with the byte
 abbrev pub sweepTold : Swept → Told
 sweepTold (S.Finished f) = told 0 (finishEntries f)
-sweepTold (S.Stopped n u k) = told n (pos u ∷ pos k ∷ zeros 6)
-sweepTold (S.Refused n p) = told n (pos p ∷ zeros 7)
+sweepTold (S.Stopped n u k) = told (atUnit n u k) []
+sweepTold (S.Refused n p) = told (atByte n p) []
 
 -- the new heading and the move; a refusal writes nothing
 abbrev pub pathTold : PathTurn → Told
@@ -61,11 +72,3 @@ pathTold (P.Refused n) = told n []
 abbrev pub unitTold : UnitTurn → Told
 unitTold (U.Turned d) = told 0 (d .x ∷ d .y ∷ [])
 unitTold (U.Refused n) = told n []
-
--- what writing k entries from `at` on asks of a run of n, and what a finished walk asks besides
-pub record Room (at k n : ℕ) : Type 0 where
-  pub room : at + k ≤ n
-
-pub record FinishFits (f : Finish) (n : ℕ) : Type 0 where
-  pub room : Room 0 8 n
-  pub ranges : FinishedSo f

@@ -11,8 +11,14 @@ ghost use lib.ListN.{length};
 ghost use lib.Seq.{sets};
 ghost use Rattle.heading.specs.PathTurn.{pathTurn};
 ghost use Rattle.unit.specs.Turn.{unitTurn};
-ghost use Rattle.swept.specs.Swept.{sweptOf};
-ghost use Rattle.turning.specs.Answers.{Answered, sweepTold, pathTold, unitTold, finishEntries, Room, FinishFits};
+ghost use Rattle.path.specs.Laying.{pathRuns};
+ghost use Rattle.reaches.specs.Cells.{reachRuns};
+ghost use Rattle.turning.specs.Answers.{TellEnsures, Answered, atByte, atUnit, sweepTold, pathTold, unitTold, finishEntries};
+ghost use Rattle.turning.specs.Calls.{SweepCalled, RunCalled};
+ghost use Rattle.turning.specs.Inner.{Room, FinishFits, ByteFits, UnitFits, AnswerFits};
+
+// How many entries the answer run of a job must have.
+const SWEEP_ENTRIES: usize = 8;
 
 // Two entries of a run, from `at` on.
 fn put_pair(run: &mut [i64], at: usize, x: i64, y: i64)
@@ -61,29 +67,77 @@ fn put_finish(run: &mut [i64], finish: Finish)
     }
 }
 
-// One job, from its bytes: 0 where its walk is finished, 1 to 10 where the job is refused, 22 or 23 where a step is.
-#[no_mangle]
-pub extern "C" fn turning_sweep(job: &[u8], answer: &mut [i64]) -> u32
-    ensures { λ r. ⌜ Answered 8 (sweepTold (sweptOf (now (job .entry)))) (now (answer .entry)) r (now (answer .exit)) ⌝ }
+// A refusal at a byte, in one number.
+fn at_byte(number: u8, byte: usize) -> u32
+    requires { ⌜ ByteFits byte ⌝ }
+    ensures { λ r. ⌜ r ≡ atByte number byte ⌝ }
 {
-    if answer.len() < 8 {
-        return 21;
-    }
-    let swept = swept::sweep_job(job);
+    number as u32 + 256 * (byte as u32)
+}
+
+// A refusal at a unit in a step, in one number.
+fn at_unit(number: u8, unit: usize, step: usize) -> u32
+    requires { ⌜ UnitFits unit step ⌝ }
+    ensures { λ r. ⌜ r ≡ atUnit number unit step ⌝ }
+{
+    number as u32 + 256 * (unit as u32) + 65536 * (step as u32)
+}
+
+// An answer's number; its entries are written where the walk is finished, and only there.
+fn tell(swept: Swept, answer: &mut [i64]) -> u32
+    requires { ⌜ AnswerFits swept (length (now answer)) ⌝ }
+    ensures { λ r. ⌜ TellEnsures (sweepTold swept) (now (answer .entry)) r (now (answer .exit)) ⌝ }
+{
     match swept {
         Swept::Finished(finish) => {
             put_finish(answer, finish);
             0
         }
-        Swept::Stopped(number, unit, step) => {
-            put_eight(answer, unit as i64, step as i64, 0, 0, 0, 0, 0, 0);
-            number as u32
-        }
-        Swept::Refused(number, byte) => {
-            put_eight(answer, byte as i64, 0, 0, 0, 0, 0, 0, 0);
-            number as u32
-        }
+        Swept::Stopped(number, unit, step) => at_unit(number, unit, step),
+        Swept::Refused(number, byte) => at_byte(number, byte),
     }
+}
+
+// One job, from its bytes: 0 where its walk is finished, else the refusal's number with the byte, or with the unit and the step.
+#[no_mangle]
+pub extern "C" fn turning_sweep(job: &[u8], answer: &mut [i64]) -> u32
+    ensures { λ r. ⌜ SweepCalled (now (job .entry)) (now (answer .entry)) r (now (answer .exit)) ⌝ }
+{
+    if answer.len() < SWEEP_ENTRIES {
+        return 21;
+    }
+    tell(swept::sweep_job(job), answer)
+}
+
+// The same on the caller's seven runs, which are left as the steps made left them; a refused job, or a run too short, writes nothing.
+#[no_mangle]
+pub extern "C" fn turning_run(
+    job: &[u8],
+    xs: &mut [i32],
+    ys: &mut [i32],
+    gxs: &mut [i32],
+    gys: &mut [i32],
+    left: &mut [i32],
+    right: &mut [i32],
+    marks: &mut [u8],
+    answer: &mut [i64],
+) -> u32
+    ensures { λ r. ⌜ RunCalled (now (job .entry))
+        (pathRuns (now (xs .entry)) (now (ys .entry)) (now (gxs .entry)) (now (gys .entry)))
+        (reachRuns (now (left .entry)) (now (right .entry)) (now (marks .entry)))
+        (now (answer .entry))
+        r
+        (pathRuns (now (xs .exit)) (now (ys .exit)) (now (gxs .exit)) (now (gys .exit)))
+        (reachRuns (now (left .exit)) (now (right .exit)) (now (marks .exit)))
+        (now (answer .exit)) ⌝ }
+{
+    if answer.len() < SWEEP_ENTRIES {
+        return 21;
+    }
+    tell(
+        swept::sweep_into(job, xs, ys, gxs, gys, left, right, marks),
+        answer,
+    )
 }
 
 // The path turn by itself: 0 with the new heading and the move, or 6, 7 or 8.

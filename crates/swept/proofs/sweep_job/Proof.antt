@@ -1,45 +1,52 @@
--- `swept::sweep_job` meets its contract, by how the bytes read.
-use mathlib.Core.Path.{_∙_}
+-- `swept::sweep_job` meets its contract: the same on runs of zeros.
 use borrow.Author.Needs.{needs}
 use denote.Ref.{now}
-use Rattle.swept.proofs.SweptLaws.{refused-tells, accepted-tells, accepted-sound}
-use Rattle.swept.proofs.RangeLaws.{told}
+use Rattle.swept.specs.Swept.{emptyPath, emptyReaches}
+use Rattle.swept.proofs.SweptLaws.{own-tells}
 use Rattle.swept.proofs.sweep_job.Statement.{statement}
 use Rattle.swept.proofs.sweep_job.Tie as tie
 
-read-job-requires : tie.Need-read-job-requires
-read-job-requires c κs = search needs
+slice-aggregate-sweep-into : tie.Need-slice-aggregate-sweep-into
+slice-aggregate-sweep-into c = search needs
 
-enum-told : tie.Need-enum-told
-enum-told c = search needs
+slice-aggregate-sweep-into-2 : tie.Need-slice-aggregate-sweep-into-2
+slice-aggregate-sweep-into-2 c = search needs
 
-sweep-accepted-requires : tie.Need-sweep-accepted-requires
-sweep-accepted-requires c κs =
-    let r = c .before .before in
-    record { accepted = accepted-sound (now (r .before .before .args .bytes)) (r .read-job .result) (r .read-job .ensures) (c .enum-told .given .1) }
+slice-aggregate-sweep-into-3 : tie.Need-slice-aggregate-sweep-into-3
+slice-aggregate-sweep-into-3 c = search needs
 
-enum-known-answer : tie.Need-enum-known-answer
-enum-known-answer c = search needs
+slice-aggregate-sweep-into-4 : tie.Need-slice-aggregate-sweep-into-4
+slice-aggregate-sweep-into-4 c = search needs
+
+slice-aggregate-sweep-into-5 : tie.Need-slice-aggregate-sweep-into-5
+slice-aggregate-sweep-into-5 c = search needs
+
+slice-aggregate-sweep-into-6 : tie.Need-slice-aggregate-sweep-into-6
+slice-aggregate-sweep-into-6 c = search needs
+
+slice-aggregate-sweep-into-7 : tie.Need-slice-aggregate-sweep-into-7
+slice-aggregate-sweep-into-7 c = search needs
+
+sweep-into-requires : tie.Need-sweep-into-requires
+sweep-into-requires c κs = search needs
 
 returns : tie.Need-returns
+unfolding emptyPath emptyReaches
 returns c =
-    let r = c .before .before .before in
-    let s = now (r .before .before .args .bytes) in
-    told s (r .read-job .ensures .bytes) _ (c .sweep-accepted .ensures ∙ accepted-tells s (r .read-job .result) (r .read-job .ensures) (c .before .enum-told .given .1))
-
-returns-2 : tie.Need-returns-2
-returns-2 c =
-    let r = c .before .before .before in
-    let s = now (r .before .before .args .bytes) in
-    told s (r .read-job .ensures .bytes) _ (refused-tells s (r .read-job .result) (r .read-job .ensures) _ _ (c .before .answer .given .1))
+    let o = c .before .before .before .before .before .before .before in
+    let k = o .before .before .before .before .before .before .before .before in
+    own-tells (now (k .before .args .bytes)) (λ i. k .shared-slice-known .given i .fits) _ _ _ (o .sweep-into .ensures)
 
 pub sweep-job-spec : {M : Type 1} → statement M
 sweep-job-spec =
     tie.close
     (tie.spec
-    read-job-requires
-    enum-told
-    sweep-accepted-requires
-    enum-known-answer
-    returns
-    returns-2)
+    slice-aggregate-sweep-into
+    slice-aggregate-sweep-into-2
+    slice-aggregate-sweep-into-3
+    slice-aggregate-sweep-into-4
+    slice-aggregate-sweep-into-5
+    slice-aggregate-sweep-into-6
+    slice-aggregate-sweep-into-7
+    sweep-into-requires
+    returns)

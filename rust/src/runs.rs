@@ -1,0 +1,27 @@
+//! The seven runs that a caller lends: one entry a station.
+
+/// The path's four runs, the least and greatest reach at each station, and its mark, a bit a point.
+#[derive(Clone, Debug, PartialEq, Eq)]
+pub struct Runs {
+    pub xs: Vec<i32>,
+    pub ys: Vec<i32>,
+    pub gxs: Vec<i32>,
+    pub gys: Vec<i32>,
+    pub left: Vec<i32>,
+    pub right: Vec<i32>,
+    pub marks: Vec<u8>,
+}
+
+impl Runs {
+    /// Zeros: 2,001 entries have room for every job.
+    pub fn zeros(entries: usize) -> Runs {
+        let run = || vec![0; entries];
+        Runs { xs: run(), ys: run(), gxs: run(), gys: run(), left: run(), right: run(), marks: vec![0; entries] }
+    }
+
+    /// The fewest entries that one of them has.
+    pub fn shortest(&self) -> usize {
+        let wide = [&self.xs, &self.ys, &self.gxs, &self.gys, &self.left, &self.right];
+        wide.iter().fold(self.marks.len(), |fewest, run| fewest.min(run.len()))
+    }
+}
