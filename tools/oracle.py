@@ -5,6 +5,7 @@
   oracle.py sweeps < hex.txt    the same for each line of hexadecimal bytes ('-' for none)
   oracle.py worked              the paper's worked cases
   oracle.py vectors             writes the tables of job_trials and call_trials (some minutes)
+  oracle.py groups              the conventions that rows of the tables pin, and on which lines
 """
 import pathlib
 import sys
@@ -12,10 +13,11 @@ import sys
 sys.dont_write_bytecode = True  # keeps the repository free of compiled files
 
 from turning.sweep import sweep  # noqa: E402
-from turning.vectors import write_vectors  # noqa: E402
+from turning.vectors import tell_groups, write_vectors  # noqa: E402
 from turning.worked import check_worked  # noqa: E402
 
 CRATES = pathlib.Path(__file__).resolve().parent.parent / "crates"
+TABLES = (CRATES / "job_trials" / "data", CRATES / "call_trials" / "data")
 
 
 def bytes_of(line):
@@ -37,7 +39,9 @@ def main(arguments):
     elif command == "worked":
         return 0 if check_worked() else 1
     elif command == "vectors":
-        write_vectors(CRATES / "job_trials" / "data", CRATES / "call_trials" / "data")
+        write_vectors(*TABLES)
+    elif command == "groups":
+        tell_groups(*TABLES)
     else:
         sys.stderr.write(__doc__)
         return 2

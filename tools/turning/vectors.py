@@ -6,20 +6,49 @@ from .call_records import lays, writes
 from .call_stations import walk_calls
 from .call_turns import path_turns, unit_turns
 from .chance import Chance
+from .convention_jobs import JOB_GROUPS, group_bytes
+from .conventions import CALL_GROUPS
 from .jobs import all_jobs
-from .sweep import sweep
+from .tables import job_line
 from .worked import rigs_to_try
 
 OPERATIONS = {"1": "place", "2": "step", "3": "widest", "4": "write", "5": "lay", "6": "path turn", "7": "unit turn"}
 
 
-def job_line(data):
-    return "%s %s" % (data.hex() or "-", sweep(data).replace("\n", "/"))
-
-
 def call_lines():
     lines = walk_calls(Chance(2002)) + writes(Chance(52)) + lays(Chance(64))
     return list(dict.fromkeys(lines + path_turns(Chance(6)) + unit_turns(Chance(7))))
+
+
+def job_groups():
+    """The rows of each named convention: jobs by their lines."""
+    return [(name, [job_line(data) for data in group_bytes(jobs())]) for name, jobs in JOB_GROUPS]
+
+
+def call_groups():
+    return [(name, calls()) for name, calls in CALL_GROUPS]
+
+
+def grouped(lines, groups):
+    """The table: the rows of the groups come last, group after group, none twice."""
+    rows = [row for _, group in groups for row in group]
+    return [line for line in lines if line not in set(rows)] + list(dict.fromkeys(rows))
+
+
+def group_places(groups, table):
+    """Each group with its rows and the first and last line of the table that they stand on."""
+    line_of = {line: k + 1 for k, line in enumerate(table)}
+    for name, rows in groups:
+        lines = [line_of[row] for row in rows]
+        yield name, len(set(rows)), min(lines), max(lines)
+
+
+def tell_groups(job_folder, call_folder):
+    """Prints the conventions that the tables pin, and where their rows stand."""
+    for folder, name, groups in ((job_folder, "jobs.txt", job_groups()), (call_folder, "calls.txt", call_groups())):
+        table = (folder / name).read_text(encoding="ascii").splitlines()
+        for group, rows, first, last in group_places(groups, table):
+            print("%-9s lines %3d to %3d, %2d rows: %s" % (name, first, last, rows, group))
 
 
 def job_kind(line):
@@ -44,7 +73,8 @@ def write_file(path, lines):
 
 
 def write_vectors(job_folder, call_folder):
-    jobs, calls = [job_line(data) for data in all_jobs()], call_lines()
+    jobs = grouped([job_line(data) for data in all_jobs()], job_groups())
+    calls = grouped(call_lines(), call_groups())
     write_file(job_folder / "rigs.txt", [job_line(data) for data in rigs_to_try()])
     write_file(job_folder / "jobs.txt", jobs)
     write_file(call_folder / "calls.txt", calls)

@@ -1,37 +1,37 @@
 // What the entries answered, held number by number to what the line says.
-use crate::reading::Cursor;
 use job::Unit;
 use job::Vehicle;
 use plane::Vec2;
+use trial_tools::reading::Cursor;
 use walk::Walk;
 
 fn expect_unit(line: &[u8], c: Cursor, u: Unit) -> Cursor {
-    let wheelbase = crate::reading::expect_size(line, c, u.wheelbase as usize);
-    let hitch = crate::reading::expect_wide(line, wheelbase, exact::wide_signed(u.hitch));
-    crate::reading::expect_wide(line, hitch, exact::wide_signed(u.fold))
+    let wheelbase = trial_tools::reading::expect_size(line, c, u.wheelbase as usize);
+    let hitch = trial_tools::reading::expect_wide(line, wheelbase, exact::wide_signed(u.hitch));
+    trial_tools::reading::expect_wide(line, hitch, exact::wide_signed(u.fold))
 }
 
 fn expect_vehicle(line: &[u8], c: Cursor, v: Vehicle) -> Cursor {
     let units = v.units;
-    let count = crate::reading::expect_size(line, c, v.count);
+    let count = trial_tools::reading::expect_size(line, c, v.count);
     let first = expect_unit(line, count, units[0]);
     let second = expect_unit(line, first, units[1]);
     let third = expect_unit(line, second, units[2]);
     let fourth = expect_unit(line, third, units[3]);
-    let overhang = crate::reading::expect_size(line, fourth, v.overhang as usize);
-    let front = crate::reading::expect_size(line, overhang, v.front_half_width as usize);
-    crate::reading::expect_size(line, front, v.rear_half_width as usize)
+    let overhang = trial_tools::reading::expect_size(line, fourth, v.overhang as usize);
+    let front = trial_tools::reading::expect_size(line, overhang, v.front_half_width as usize);
+    trial_tools::reading::expect_size(line, front, v.rear_half_width as usize)
 }
 
 pub fn expect_vector(line: &[u8], c: Cursor, v: Vec2) -> Cursor {
-    let x = crate::reading::expect_wide(line, c, v.x);
-    crate::reading::expect_wide(line, x, v.y)
+    let x = trial_tools::reading::expect_wide(line, c, v.x);
+    trial_tools::reading::expect_wide(line, x, v.y)
 }
 
 pub fn expect_walk(line: &[u8], c: Cursor, w: Walk) -> Cursor {
     let d = w.d;
     let vehicle = expect_vehicle(line, c, w.vehicle);
-    let station = crate::reading::expect_size(line, vehicle, w.station);
+    let station = trial_tools::reading::expect_size(line, vehicle, w.station);
     let first = expect_vector(line, station, d[0]);
     let second = expect_vector(line, first, d[1]);
     let third = expect_vector(line, second, d[2]);

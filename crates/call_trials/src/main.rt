@@ -3,16 +3,14 @@
 // A line is the kind of the call, what is handed over, ` = ` and what is answered, a run being its length and then its entries. The answer begins
 // with the refusal's number or 0; beside a refusal what is answered by value stands as zeros, and a record or a run as it was handed in.
 mod answers;
-mod arguments;
 mod others;
-mod reading;
 mod runs;
 mod walks;
 
-use crate::reading::Cursor;
 use libc::STDOUT_FILENO;
+use trial_tools::reading::Cursor;
 ghost use mathlib.Core.Path.{_≡_};
-ghost use Prim.Native.Nat.{_<_, _≤_};
+ghost use Prim.Native.Nat.{_<_};
 ghost use lib.ListN.{length};
 
 // The calls of one kind: how many, how many of them answer as they should, and the line of the first that does not, 0 for none.
@@ -28,12 +26,6 @@ pub struct Outcome {
     pub right: bool,
 }
 
-// A line's end, and where the next begins.
-pub struct Line {
-    pub end: usize,
-    pub next: usize,
-}
-
 fn make_call(line: &[u8], kind: usize, c: Cursor) -> Cursor {
     match kind {
         1 => walks::place(line, c),
@@ -43,14 +35,14 @@ fn make_call(line: &[u8], kind: usize, c: Cursor) -> Cursor {
         5 => others::lay(line, c),
         6 => others::path_turn(line, c),
         7 => others::unit_turn(line, c),
-        _ => reading::tested(c, false),
+        _ => trial_tools::reading::tested(c, false),
     }
 }
 
 // The call of a line; numbers left over behind its answer are a fault too.
 fn try_line(line: &[u8]) -> Outcome {
     let start = Cursor { at: 0, right: true };
-    let kind = reading::read_size(line, start);
+    let kind = trial_tools::reading::read_size(line, start);
     let end = make_call(line, kind.value, kind.next);
     Outcome {
         kind: kind.value,
@@ -90,24 +82,6 @@ fn enter(counts: [Count; 8], o: Outcome, line: u64) -> [Count; 8] {
     out
 }
 
-// The line that starts at a place inside the text.
-fn line_at(text: &[u8], from: usize) -> Line
-    requires { ⌜ from < length (now text) ⌝ }
-    ensures { λ r. ⌜ (from ≤ r .end) × (r .end ≤ length (now (text .entry))) × (from < r .next) × (r .next ≤ length (now (text .entry))) ⌝ }
-{
-    let mut i = from;
-    while i < text.len() {
-        if text[i] == 10 {
-            return Line {
-                end: i,
-                next: i + 1,
-            };
-        }
-        i += 1;
-    }
-    Line { end: i, next: i }
-}
-
 fn try_lines(text: &[u8]) -> [Count; 8] {
     let mut counts = [Count {
         all: 0,
@@ -117,7 +91,7 @@ fn try_lines(text: &[u8]) -> [Count; 8] {
     let mut number: u64 = 0;
     let mut at: usize = 0;
     while at < text.len() {
-        let l = line_at(text, at);
+        let l = trial_tools::lines::line_at(text, at);
         let end = l.end;
         number += 1;
         let o = try_line(&text[at..end]);
@@ -167,10 +141,10 @@ fn report_all(counts: [Count; 8]) {
 }
 
 // Room for the whole table.
-fn empty_text() -> [u8; 600000]
-    ensures { λ r. ⌜ 600000 ≡ length r ⌝ }
+fn empty_text() -> [u8; 800000]
+    ensures { λ r. ⌜ 800000 ≡ length r ⌝ }
 {
-    [0; 600000]
+    [0; 800000]
 }
 
 fn main() {
@@ -183,7 +157,7 @@ fn main() {
     let mut text = empty_text();
     let n = io::read_full(file, &mut text);
     libc::close(file);
-    if n == 600000 {
+    if n == 800000 {
         io::write_all(STDOUT_FILENO, b"the table does not fit\n");
         return;
     }

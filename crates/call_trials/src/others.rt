@@ -1,5 +1,4 @@
 // Calls of the other entries: the widest place, writing and laying a job, and the two turns.
-use crate::reading::Cursor;
 use heading::PathTurn;
 use job::Job;
 use job_writer::Wrote;
@@ -7,6 +6,7 @@ use path::Laid;
 use plane::Vec2;
 use reaches::Place;
 use reaches::WidestAnswer;
+use trial_tools::reading::Cursor;
 use unit::UnitTurn;
 
 fn no_place() -> Place {
@@ -19,18 +19,18 @@ fn no_place() -> Place {
 }
 
 fn expect_place(line: &[u8], c: Cursor, number: u8, p: Place) -> Cursor {
-    let answer = crate::reading::expect_size(line, c, number as usize);
-    let station = crate::reading::expect_size(line, answer, p.station);
-    let width = crate::reading::expect_wide(line, station, p.width);
-    let left = crate::reading::expect_wide(line, width, p.left);
-    crate::reading::expect_wide(line, left, p.right)
+    let answer = trial_tools::reading::expect_size(line, c, number as usize);
+    let station = trial_tools::reading::expect_size(line, answer, p.station);
+    let width = trial_tools::reading::expect_wide(line, station, p.width);
+    let left = trial_tools::reading::expect_wide(line, width, p.left);
+    trial_tools::reading::expect_wide(line, left, p.right)
 }
 
 pub fn widest(line: &[u8], c: Cursor) -> Cursor {
     let mut left = crate::runs::empty_run();
     let mut right = crate::runs::empty_run();
     let mut marks = crate::runs::empty_bytes();
-    let asked = crate::reading::read_size(line, c);
+    let asked = trial_tools::reading::read_size(line, c);
     let l = crate::runs::read_run(line, asked.next, &mut left);
     let r = crate::runs::read_run(line, l.next, &mut right);
     let m = crate::runs::read_bytes(line, r.next, &mut marks);
@@ -38,7 +38,7 @@ pub fn widest(line: &[u8], c: Cursor) -> Cursor {
     let j = r.count;
     let k = m.count;
     let answer = reaches::widest(asked.value, &left[..i], &right[..j], &marks[..k]);
-    let told = crate::reading::equals_sign(line, m.next);
+    let told = trial_tools::reading::equals_sign(line, m.next);
     match answer {
         WidestAnswer::At(p) => expect_place(line, told, 0, p),
         WidestAnswer::Refused(number) => expect_place(line, told, number, no_place()),
@@ -47,8 +47,8 @@ pub fn widest(line: &[u8], c: Cursor) -> Cursor {
 
 // A refusal's number or 0, and how many bytes were written or stations laid.
 fn expect_count(line: &[u8], c: Cursor, number: u8, count: usize) -> Cursor {
-    let answer = crate::reading::expect_size(line, c, number as usize);
-    crate::reading::expect_size(line, answer, count)
+    let answer = trial_tools::reading::expect_size(line, c, number as usize);
+    trial_tools::reading::expect_size(line, answer, count)
 }
 
 fn expect_wrote(line: &[u8], c: Cursor, w: Wrote) -> Cursor {
@@ -66,10 +66,10 @@ fn written(line: &[u8], c: Cursor, j: Job, run: &mut [u8]) -> Cursor {
 
 pub fn write(line: &[u8], c: Cursor) -> Cursor {
     let mut bytes = crate::runs::empty_bytes();
-    let j = crate::arguments::read_job(line, c);
+    let j = trial_tools::arguments::read_job(line, c);
     let run = crate::runs::read_bytes(line, j.next, &mut bytes);
     let n = run.count;
-    let told = crate::reading::equals_sign(line, run.next);
+    let told = trial_tools::reading::equals_sign(line, run.next);
     written(line, told, j.job, &mut bytes[..n])
 }
 
@@ -102,7 +102,7 @@ pub fn lay(line: &[u8], c: Cursor) -> Cursor {
     let mut ys = crate::runs::empty_run();
     let mut gxs = crate::runs::empty_run();
     let mut gys = crate::runs::empty_run();
-    let read = crate::arguments::read_job(line, c);
+    let read = trial_tools::arguments::read_job(line, c);
     let x = crate::runs::read_run(line, read.next, &mut xs);
     let y = crate::runs::read_run(line, x.next, &mut ys);
     let gx = crate::runs::read_run(line, y.next, &mut gxs);
@@ -111,7 +111,7 @@ pub fn lay(line: &[u8], c: Cursor) -> Cursor {
     let j = y.count;
     let k = gx.count;
     let n = gy.count;
-    let told = crate::reading::equals_sign(line, gy.next);
+    let told = trial_tools::reading::equals_sign(line, gy.next);
     laid(
         line,
         told,
@@ -128,17 +128,17 @@ fn nowhere() -> Vec2 {
 }
 
 fn expect_turn(line: &[u8], c: Cursor, number: u8, turned: Vec2, shift: Vec2) -> Cursor {
-    let answer = crate::reading::expect_size(line, c, number as usize);
+    let answer = trial_tools::reading::expect_size(line, c, number as usize);
     let heading = crate::answers::expect_vector(line, answer, turned);
     crate::answers::expect_vector(line, heading, shift)
 }
 
 pub fn path_turn(line: &[u8], c: Cursor) -> Cursor {
-    let g = crate::arguments::read_vector(line, c);
-    let s = crate::reading::read_natural(line, g.next);
-    let r = crate::reading::read_signed(line, s.next);
+    let g = trial_tools::arguments::read_vector(line, c);
+    let s = trial_tools::reading::read_natural(line, g.next);
+    let r = trial_tools::reading::read_signed(line, s.next);
     let answer = heading::turn_path(g.vector, s.value, r.value);
-    let told = crate::reading::equals_sign(line, r.next);
+    let told = trial_tools::reading::equals_sign(line, r.next);
     match answer {
         PathTurn::Turned(a) => expect_turn(line, told, 0, a.heading, a.shift),
         PathTurn::Refused(number) => expect_turn(line, told, number, nowhere(), nowhere()),
@@ -146,16 +146,16 @@ pub fn path_turn(line: &[u8], c: Cursor) -> Cursor {
 }
 
 fn expect_unit_turn(line: &[u8], c: Cursor, number: u8, d: Vec2) -> Cursor {
-    let answer = crate::reading::expect_size(line, c, number as usize);
+    let answer = trial_tools::reading::expect_size(line, c, number as usize);
     crate::answers::expect_vector(line, answer, d)
 }
 
 pub fn unit_turn(line: &[u8], c: Cursor) -> Cursor {
-    let d = crate::arguments::read_vector(line, c);
-    let f = crate::arguments::read_vector(line, d.next);
-    let wheelbase = crate::reading::read_natural(line, f.next);
+    let d = trial_tools::arguments::read_vector(line, c);
+    let f = trial_tools::arguments::read_vector(line, d.next);
+    let wheelbase = trial_tools::reading::read_natural(line, f.next);
     let answer = unit::turn_unit(d.vector, f.vector, wheelbase.value);
-    let told = crate::reading::equals_sign(line, wheelbase.next);
+    let told = trial_tools::reading::equals_sign(line, wheelbase.next);
     match answer {
         UnitTurn::Turned(v) => expect_unit_turn(line, told, 0, v),
         UnitTurn::Refused(number) => expect_unit_turn(line, told, number, nowhere()),

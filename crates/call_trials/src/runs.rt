@@ -1,5 +1,5 @@
 // Lent runs of a line: a length, then as many entries.
-use crate::reading::Cursor;
+use trial_tools::reading::Cursor;
 ghost use mathlib.Core.Path.{_≡_};
 ghost use lib.ListN.{length};
 ghost use Rattle.call_trials.specs.Counted.{Counted};
@@ -26,18 +26,18 @@ pub fn empty_bytes() -> [u8; 2002]
 pub fn read_run(line: &[u8], c: Cursor, run: &mut [i32]) -> Run
     ensures { λ r. ⌜ Counted (r .count) (now (run .exit)) ⌝ }
 {
-    let n = crate::reading::read_size(line, c);
+    let n = trial_tools::reading::read_size(line, c);
     let count = n.value;
     if run.len() < count {
         return Run {
             count: 0,
-            next: crate::reading::tested(n.next, false),
+            next: trial_tools::reading::tested(n.next, false),
         };
     }
     let mut at = n.next;
     let mut i: usize = 0;
     while i < count {
-        let e = crate::reading::read_signed(line, at);
+        let e = trial_tools::reading::read_signed(line, at);
         let value = e.value;
         run[i] = value;
         at = e.next;
@@ -49,31 +49,31 @@ pub fn read_run(line: &[u8], c: Cursor, run: &mut [i32]) -> Run
 pub fn read_bytes(line: &[u8], c: Cursor, run: &mut [u8]) -> Run
     ensures { λ r. ⌜ Counted (r .count) (now (run .exit)) ⌝ }
 {
-    let n = crate::reading::read_size(line, c);
+    let n = trial_tools::reading::read_size(line, c);
     let count = n.value;
     if run.len() < count {
         return Run {
             count: 0,
-            next: crate::reading::tested(n.next, false),
+            next: trial_tools::reading::tested(n.next, false),
         };
     }
     let mut at = n.next;
     let mut i: usize = 0;
     while i < count {
-        let e = crate::reading::read_size(line, at);
+        let e = trial_tools::reading::read_size(line, at);
         let value = e.value;
         run[i] = (value % 256) as u8;
-        at = crate::reading::tested(e.next, value < 256);
+        at = trial_tools::reading::tested(e.next, value < 256);
         i += 1;
     }
     Run { count, next: at }
 }
 
 pub fn expect_run(line: &[u8], c: Cursor, run: &[i32]) -> Cursor {
-    let mut at = crate::reading::expect_size(line, c, run.len());
+    let mut at = trial_tools::reading::expect_size(line, c, run.len());
     let mut i: usize = 0;
     while i < run.len() {
-        at = crate::reading::expect_wide(line, at, exact::wide_signed(run[i]));
+        at = trial_tools::reading::expect_wide(line, at, exact::wide_signed(run[i]));
         i += 1;
     }
     at
@@ -84,10 +84,10 @@ fn size_of(b: u8) -> usize {
 }
 
 pub fn expect_bytes(line: &[u8], c: Cursor, run: &[u8]) -> Cursor {
-    let mut at = crate::reading::expect_size(line, c, run.len());
+    let mut at = trial_tools::reading::expect_size(line, c, run.len());
     let mut i: usize = 0;
     while i < run.len() {
-        at = crate::reading::expect_size(line, at, size_of(run[i]));
+        at = trial_tools::reading::expect_size(line, at, size_of(run[i]));
         i += 1;
     }
     at

@@ -1,7 +1,7 @@
 // Calls of placing and stepping.
-use crate::reading::Cursor;
 use job::Vehicle;
 use stations::PlaceAnswer;
+use trial_tools::reading::Cursor;
 use walk::StepAnswer;
 use walk::Walk;
 
@@ -49,11 +49,11 @@ fn told_step(s: walk::Advanced) -> Told {
 
 // A placement names no unit, and its line has no place for one.
 fn expect_told(line: &[u8], c: Cursor, placing: bool, t: Told) -> Cursor {
-    let number = crate::reading::expect_size(line, c, t.number as usize);
+    let number = trial_tools::reading::expect_size(line, c, t.number as usize);
     if placing {
         return crate::answers::expect_walk(line, number, t.walk);
     }
-    let unit = crate::reading::expect_size(line, number, t.unit);
+    let unit = trial_tools::reading::expect_size(line, number, t.unit);
     crate::answers::expect_walk(line, unit, t.walk)
 }
 
@@ -123,7 +123,7 @@ fn with_reaches(
     let k = m.count;
     made(
         line,
-        crate::reading::equals_sign(line, m.next),
+        trial_tools::reading::equals_sign(line, m.next),
         placing,
         v,
         w,
@@ -144,7 +144,7 @@ fn with_path(line: &[u8], c: Cursor, placing: bool, v: Vehicle, w: Walk) -> Curs
     let mut ys = crate::runs::empty_run();
     let mut gxs = crate::runs::empty_run();
     let mut gys = crate::runs::empty_run();
-    let asked = crate::reading::read_size(line, c);
+    let asked = trial_tools::reading::read_size(line, c);
     let x = crate::runs::read_run(line, asked.next, &mut xs);
     let y = crate::runs::read_run(line, x.next, &mut ys);
     let gx = crate::runs::read_run(line, y.next, &mut gxs);
@@ -168,13 +168,13 @@ fn with_path(line: &[u8], c: Cursor, placing: bool, v: Vehicle, w: Walk) -> Curs
 }
 
 pub fn place(line: &[u8], c: Cursor) -> Cursor {
-    let v = crate::arguments::read_vehicle(line, c);
-    let w = crate::arguments::read_walk(line, v.next);
+    let v = trial_tools::arguments::read_vehicle(line, c);
+    let w = trial_tools::arguments::read_walk(line, v.next);
     with_path(line, w.next, true, v.vehicle, w.walk)
 }
 
 pub fn step(line: &[u8], c: Cursor) -> Cursor {
-    let w = crate::arguments::read_walk(line, c);
+    let w = trial_tools::arguments::read_walk(line, c);
     let walk = w.walk;
     let vehicle = walk.vehicle;
     with_path(line, w.next, false, vehicle, walk)

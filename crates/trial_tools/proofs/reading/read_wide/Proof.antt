@@ -1,12 +1,12 @@
--- `call_trials::reading::read_wide` is safe and ends.
+-- `trial_tools::reading::read_wide` is safe and ends.
 use mir.Syntax.{w64}
 use mir.ValLaws.{toZ-pos}
 use native.Mathlib.Omega.{arith}
 use Prim.Native.Nat.{_<_, _-_, _^_}
 use Rattle.number.proofs.SignedLaws.{less-pos}
 use borrow.Author.Needs.{needs}
-use Rattle.call_trials.proofs.reading.read_wide.Statement.{statement}
-use Rattle.call_trials.proofs.reading.read_wide.Tie as tie
+use Rattle.trial_tools.proofs.reading.read_wide.Statement.{statement}
+use Rattle.trial_tools.proofs.reading.read_wide.Tie as tie
 
 read-number-requires : tie.Need-read-number-requires
 read-number-requires c κs = search needs

@@ -1,8 +1,8 @@
--- `call_trials::reading::read_signed` is safe and ends.
-use Rattle.call_trials.proofs.RunLaws.{short-fits}
+-- `trial_tools::reading::read_signed` is safe and ends.
+use Rattle.trial_tools.proofs.ReadingLaws.{short-fits}
 use borrow.Author.Needs.{needs}
-use Rattle.call_trials.proofs.reading.read_signed.Statement.{statement}
-use Rattle.call_trials.proofs.reading.read_signed.Tie as tie
+use Rattle.trial_tools.proofs.reading.read_signed.Statement.{statement}
+use Rattle.trial_tools.proofs.reading.read_signed.Tie as tie
 
 read-wide-requires : tie.Need-read-wide-requires
 read-wide-requires c κs = search needs

@@ -70,7 +70,7 @@ fn appended(d: Digits, digit: u64) -> Digits {
 }
 
 // The digits from a place on.
-fn read_digits(line: &[u8], from: usize) -> Digits {
+pub fn read_digits(line: &[u8], from: usize) -> Digits {
     let mut d = Digits {
         size: 0,
         fits: true,

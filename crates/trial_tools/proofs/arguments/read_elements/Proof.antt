@@ -1,8 +1,8 @@
--- `call_trials::arguments::read_elements` is safe and ends.
+-- `trial_tools::arguments::read_elements` is safe and ends.
 use borrow.Author.Needs.{needs}
 use Prim.Native.Nat.{_-_, _≤_}
-use Rattle.call_trials.proofs.arguments.read_elements.Statement.{statement}
-use Rattle.call_trials.proofs.arguments.read_elements.Tie as tie
+use Rattle.trial_tools.proofs.arguments.read_elements.Statement.{statement}
+use Rattle.trial_tools.proofs.arguments.read_elements.Tie as tie
 
 abbrev Inv-loop : tie.InvT-loop
 Inv-loop line count elements₀ at₀ i₀ elements at i = (i ≤ count) × (count ≤ 64)

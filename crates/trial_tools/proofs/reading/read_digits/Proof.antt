@@ -1,9 +1,9 @@
--- `call_trials::reading::read_digits` is safe and ends.
+-- `trial_tools::reading::read_digits` is safe and ends.
 use borrow.Author.Needs.{needs}
 use Prim.Native.Nat.{_-_, _≤_}
 use lib.ListN.{length}
-use Rattle.call_trials.proofs.reading.read_digits.Statement.{statement}
-use Rattle.call_trials.proofs.reading.read_digits.Tie as tie
+use Rattle.trial_tools.proofs.reading.read_digits.Statement.{statement}
+use Rattle.trial_tools.proofs.reading.read_digits.Tie as tie
 
 abbrev Inv-loop : tie.InvT-loop
 Inv-loop line from d₀ i₀ d i = 0 ≤ i

@@ -1,9 +1,9 @@
--- `call_trials::line_at` meets its contract.
+-- `trial_tools::lines::line_at` meets its contract.
 use borrow.Author.Needs.{needs}
 use Prim.Native.Nat.{_-_, _≤_}
 use lib.ListN.{length}
-use Rattle.call_trials.proofs.line_at.Statement.{statement}
-use Rattle.call_trials.proofs.line_at.Tie as tie
+use Rattle.trial_tools.proofs.lines.line_at.Statement.{statement}
+use Rattle.trial_tools.proofs.lines.line_at.Tie as tie
 
 abbrev Inv-loop : tie.InvT-loop
 Inv-loop text from i₀ i = from ≤ i × i ≤ length text

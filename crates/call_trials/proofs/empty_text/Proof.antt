@@ -1,0 +1,10 @@
+-- `call_trials::empty_text` meets its contract.
+use Rattle.call_trials.proofs.RunLaws.{zeros-length}
+use Rattle.call_trials.proofs.empty_text.Statement.{statement}
+use Rattle.call_trials.proofs.empty_text.Tie as tie
+
+returns : tie.Need-returns
+returns c = zeros-length 800000
+
+pub empty-text-spec : {M : Type 1} → statement M
+empty-text-spec = tie.close (tie.spec returns)
