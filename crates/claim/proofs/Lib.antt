@@ -1,12 +1,12 @@
 pub mod CallsKept
-pub mod HistoryLaws
-pub mod HistoryKept
-pub mod WholeRig
-pub mod RunFollows
-pub mod RunKept
 pub mod LaidLaws
 pub mod NeverLaws
 pub mod CallsMade
 pub mod CallsThere
 pub mod RefusedThere
 pub mod CallsWitness
+pub mod HistoryLaws
+pub mod HistoryKept
+pub mod WholeRig
+pub mod RunFollows
+pub mod RunKept

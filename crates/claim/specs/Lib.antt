@@ -1,6 +1,6 @@
 pub mod DemandThree
-pub mod StationHistory
-pub mod WholeRun
 pub mod LaidPasses
 pub mod NeverWritten
 pub mod PremisesMet
+pub mod StationHistory
+pub mod WholeRun

@@ -11,16 +11,6 @@ pub fn demand_three()
     ensures { λ _. ⌜ DemandThree ⌝ }
 {}
 
-// Claim: after an accepted placement and any calls over its path, each station has a bit for just the points that crossed it in a made step, and the least and greatest of the reaches that entered.
-pub fn station_history()
-    ensures { λ _. ⌜ StationHistory ⌝ }
-{}
-
-// Claim: a whole job is laying, placing and step calls until one is refused: the seven runs, the answer, the steps counted and the step named.
-pub fn whole_run()
-    ensures { λ _. ⌜ WholeRun ⌝ }
-{}
-
 // Claim: 26 never answers on what was laid: its stations pass the test that answers it, and no placement or step over them is refused by that number.
 pub fn laid_passes()
     ensures { λ _. ⌜ LaidPasses ⌝ }
@@ -34,4 +24,14 @@ pub fn never_written()
 // Claim: what the claims over calls ask can be met: every entry answers whatever it is handed, any list of step calls can follow any record, the calls of a run that is not refused are there, and some have made steps and refused ones.
 pub fn premises_met()
     ensures { λ _. ⌜ PremisesMet ⌝ }
+{}
+
+// Claim: after an accepted placement and any calls over its path, each station has a bit for just the points that crossed it in a made step, and the least and greatest of the reaches that entered.
+pub fn station_history()
+    ensures { λ _. ⌜ StationHistory ⌝ }
+{}
+
+// Claim: a whole job is laying, placing and step calls until one is refused: the seven runs, the answer, the steps counted and the step named.
+pub fn whole_run()
+    ensures { λ _. ⌜ WholeRun ⌝ }
 {}
