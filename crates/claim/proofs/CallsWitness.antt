@@ -25,11 +25,12 @@ use Rattle.walk.specs.Drawn.{Call, Outcome, made, refused, refusedAt}
 use Rattle.walk.specs.Tests.{lent, stationSound, pathSound, vehicleSound, vectorSound, vectorsSound, recordSound, atLast}
 use Rattle.walk.specs.Units.{turnUnits}
 use Rattle.walk.specs.Rig.{zeroVector, startVectors, drawnStart, drawStep}
-use Rattle.reaches.specs.Cells.{Reaches, reachRuns, atStations, cleared}
+use Rattle.reaches.specs.Cells.{Reaches, reachRuns, lengthsOf, atStations, cleared}
 use Rattle.stations.specs.Placing.{callOf, placeRefusal, startHeading}
 use Rattle.stations.specs.declared.PlaceAnswer.the-variants as P
 use Rattle.stations.proofs.PlaceLaws.{place-done}
 use Rattle.run.specs.Run.{runRefusal}
+use Rattle.claim.specs.DemandThree.{Turn}
 use Rattle.claim.specs.WholeRun.{Run}
 use Rattle.claim.specs.PremisesMet.{Handing, turnAnswers, WalkAnswering, RunAnswering, PremisesMet}
 use Rattle.claim.proofs.CallsMade.{lays, places, runs-of, recordOf, turnsOver, over-chain, calls}
@@ -83,22 +84,26 @@ all-answers : turnAnswers (turnsOver placed handings) ≡ refused 21 ∷ refused
 unfolding halfTo nearestSize nearestZ hasLength faultOf unitsFault vehicleFault placedBy turnedBy tooFar hitchOffset foldAllowed lent stationSound pathSound vehicleSound vectorSound vectorsSound recordSound atLast turnUnits startVectors drawStep turnsOver
 all-answers = refl
 
+own-lengths : map (λ (t : Turn). t .call .reaches) (turnsOver placed handings) ≡ map (λ (t : Turn). lengthsOf (t .before)) (turnsOver placed handings)
+unfolding turnsOver
+own-lengths = refl
+
 pub walk-met : WalkAnswering (refused 21 ∷ refused 26 ∷ refusedAt 23 2 ∷ refusedAt 22 1 ∷ made ∷ refused 27 ∷ refused 25 ∷ [])
-walk-met =
-    let c = call 2 (pos 0) (pos 5000) in
-    record {
-      vehicle = rig;
-      walk = noWalk;
-      call = c;
-      before = runs;
-      placing = record { answer = P.Placed; walk = placed };
-      after = cleared 2 runs;
-      ensured = place-done rig noWalk c runs placed (cleared 2 runs) none-refused refl refl;
-      placed = refl;
-      turns = turnsOver placed handings;
-      chain = over-chain placed handings;
-      answered = all-answers;
-    }
+walk-met = record {
+  vehicle = rig;
+  walk = noWalk;
+  asked = 2;
+  path = pathTo (pos 0) (pos 5000);
+  before = runs;
+  placing = record { answer = P.Placed; walk = placed };
+  after = cleared 2 runs;
+  ensured = place-done rig noWalk (call 2 (pos 0) (pos 5000)) runs placed (cleared 2 runs) none-refused refl refl;
+  placed = refl;
+  turns = turnsOver placed handings;
+  lengths = own-lengths;
+  chain = over-chain placed handings;
+  answered = all-answers;
+}
 
 -- a unit of the shortest wheelbase on a straight due north: the job's step, and the lengths of its elements
 abbrev straight : ℕ → Element

@@ -1,52 +1,28 @@
 -- What was laid passes the test that answers 26, and 26 is answered by nothing else.
-use Prim.Native.Nat.{ℕ, _+_, _<_}
+use Prim.Native.Nat.{ℕ, _<_}
 use mathlib.Core.Path.{_≡_, sym, _∙_, ap}
 use mathlib.Core.Bool.{Bool, true, false}
-use mathlib.Core.List.{List, [], _∷_}
+use mathlib.Core.Logic.{⊎-elim}
 use native.Mathlib.Omega.{arith}
+use lib.ListN.{length}
 use Rattle.number.specs.Read.{pick}
-use Rattle.plane.specs.declared.Vec2.{Vec2}
-use Rattle.plane.specs.Vector.{minus}
-use Rattle.job.specs.declared.Unit.{Unit as VehicleUnit}
 use Rattle.job.specs.declared.Vehicle.{Vehicle}
-use Rattle.unit.specs.Turn.{turnedBy, tooFar}
 use Rattle.walk.specs.Drawn.{Drawn, view, Call, stationAt}
-use Rattle.walk.specs.Tests.{lent, pathSound, stationSound, vehicleSound, recordSound, atLast}
-use Rattle.walk.specs.Units.{wheelbaseOf, hitchAt, Ahead, behind, foldKept, Turning, turned, stopped, onto, turnUnits}
+use Rattle.walk.specs.Tests.{lent, pathSound, stationSound, vehicleSound, recordSound, atLast, unitsInUse}
+use Rattle.walk.specs.Units.{none, Turning, turned, stopped}
 use Rattle.walk.specs.Rig.{Stepped, turningOf, afterTurning, turnedDown, drawStep}
 use Rattle.walk.proofs.PathTests.{all-sound}
 use Rattle.stations.specs.declared.PlaceAnswer.the-variants as P
 use Rattle.stations.specs.Placing.{placeRefusal, placeAnswer}
 use Rattle.run.proofs.RunLaws.{laid-station}
+use Rattle.run.proofs.StopLaws.{StopsIn, units-stop}
 use Rattle.claim.specs.LaidPasses.{numberOf, OverLaid, LaidPasses}
-
--- a unit stops the others by 22 or 23
-abbrev Not26 : Turning → Type 0
-Not26 (turned ds) = Unit {0}
-Not26 (stopped n u) = n ≡ 26 → ⊥
-
-units-not-26 : (i : ℕ) (a : Ahead) (us : List VehicleUnit) (ds : List Vec2) (old new : Vec2) → Not26 (turnUnits i a us ds old new)
-unfolding turnUnits
-units-not-26 i a us [] old new = tt
-units-not-26 i a [] (d ∷ ds) old new = tt
-units-not-26 i a (u ∷ us) (d ∷ ds) old new =
-    let d' = turnedBy d (minus new old) (wheelbaseOf u) in
-    by (tooFar (minus new old) (wheelbaseOf u)) (foldKept a u d') d' (turnUnits (i + 1) (behind u d') us ds (hitchAt u old d) (hitchAt u new d')) (units-not-26 (i + 1) (behind u d') us ds (hitchAt u old d) (hitchAt u new d'))
-  where
-    later : (x : Vec2) (t : Turning) → Not26 t → Not26 (onto x t)
-    later x (turned es) h = tt
-    later x (stopped n v) h = h
-
-    by : (far fold : Bool) (x : Vec2) (t : Turning) → Not26 t → Not26 (pick far (stopped 22 i) (pick fold (onto x t) (stopped 23 i)))
-    by true fold x t h = λ e. omega arith
-    by false true x t h = later x t h
-    by false false x t h = λ e. omega arith
 
 -- a step over a sound path
 module _ (s : Drawn) (c : Call) (sound : pathSound (c .asked) (c .path) ≡ true) where
-  turned-not-26 : (t : Turning) → Not26 t → numberOf (afterTurning s t .answer) ≡ 26 → ⊥
-  turned-not-26 (turned ds) h e = omega arith
-  turned-not-26 (stopped n u) h e = h e
+  turned-not-26 : (k : ℕ) (t : Turning) → StopsIn 1 k t → numberOf (afterTurning s t .answer) ≡ 26 → ⊥
+  turned-not-26 k (turned ds) h e = omega arith
+  turned-not-26 k (stopped n u) h e = ⊎-elim (λ (z : n ≡ 22). omega arith) (λ (z : n ≡ 23). omega arith) (h .0)
 
   by-tests : (a b d l : Bool) (r : Stepped) → b ≡ true → (numberOf (r .answer) ≡ 26 → ⊥)
       → numberOf (pick a (pick b (pick d (pick l (turnedDown s 25) r) (turnedDown s 27)) (turnedDown s 26)) (turnedDown s 21) .answer) ≡ 26 → ⊥
@@ -60,7 +36,7 @@ module _ (s : Drawn) (c : Call) (sound : pathSound (c .asked) (c .path) ≡ true
   unfolding drawStep
   step-not-26 =
       by-tests (lent c) (pathSound (c .asked) (c .path)) (recordSound (c .asked) s) (atLast (c .asked) s) (afterTurning s (turningOf s c)) sound
-      (turned-not-26 (turningOf s c) (units-not-26 1 _ _ _ _ _))
+      (turned-not-26 (length (unitsInUse (s .vehicle))) (turningOf s c) (units-stop 1 none (unitsInUse (s .vehicle)) (s .vectors) _ _))
 
 -- a placement over one
 place-by : (a b d : Bool) → b ≡ true → placeAnswer (pick a (pick b (pick d 0 27) 26) 21) ≡ P.Refused 26 → ⊥

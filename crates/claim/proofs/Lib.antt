@@ -1,4 +1,10 @@
 pub mod CallsKept
+pub mod LaidLaws
+pub mod NeverLaws
+pub mod CallsMade
+pub mod CallsThere
+pub mod RefusedThere
+pub mod CallsWitness
 pub mod HistoryLaws
 pub mod HistoryKept
 pub mod WholeRig
@@ -8,10 +14,4 @@ pub mod WidestKept
 pub mod RunWidest
 pub mod Example
 pub mod WorkedRun
-pub mod LaidLaws
-pub mod NeverLaws
-pub mod CallsMade
-pub mod CallsThere
-pub mod RefusedThere
-pub mod CallsWitness
 pub mod HistoryClaims

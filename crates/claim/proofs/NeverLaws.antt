@@ -1,5 +1,5 @@
 -- No step touches the top two bits of a mark, and no call an entry past the stations asked for.
-use Prim.Native.Nat.{ℕ, zero, suc, _+_, _/_, _≤_, _<_}
+use Prim.Native.Nat.{ℕ, zero, suc, _+_, _≤_, _<_}
 use mathlib.Core.Path.{_≡_, refl, sym, _∙_, ap, subst}
 use mathlib.Core.List.{List, [], _∷_, map}
 use native.Mathlib.Omega.{arith}
@@ -30,7 +30,7 @@ use Rattle.run.specs.declared.Ran.the-variants as R
 use Rattle.run.specs.Walking.{Course, walkOn}
 use Rattle.run.specs.Run.{runRefusal, jobPath, jobCourse}
 use Rattle.claim.specs.WholeRun.{Run, Ensured}
-use Rattle.claim.specs.NeverWritten.{topTwoBits, PastKept, PathPastKept, ReachesPastKept, stationCount, StepNever, PlaceNever, RunNever, NeverWritten}
+use Rattle.claim.specs.NeverWritten.{topTwo, topTwoBits, PastKept, PathPastKept, ReachesPastKept, stationCount, StepNever, PlaceNever, RunNever, NeverWritten}
 use Rattle.claim.proofs.CallsKept.{none-refused}
 use Rattle.claim.proofs.CallsThere.{no-refusal}
 
@@ -66,12 +66,11 @@ stations-past f (suc n) k r h =
     (record { left = set-past k (s .left) n (c .left) (omega arith); right = set-past k (s .right) n (c .right) (omega arith); marks = set-past k (s .marks) n (c .mark) (omega arith) })
 
 -- a mark replaced by one with the same top bits
-set-top : (l : List ℕ) (n v i : ℕ) → v / 64 ≡ getD l n 0 / 64 → getD (set l n v) i 0 / 64 ≡ getD l i 0 / 64
+set-top : (l : List ℕ) (n v i : ℕ) → topTwo v ≡ topTwo (getD l n 0) → topTwo (getD (set l n v) i 0) ≡ topTwo (getD l i 0)
 set-top l n v i e =
-    let f : ℕ → ℕ = λ m. m / 64 in
-    sym (List·getD-map f (set l n v) i 0) ∙ ap (λ (m : List ℕ). getD m i 0) (map-set-same f l n v 0 e) ∙ List·getD-map f l i 0
+    sym (List·getD-map topTwo (set l n v) i 0) ∙ ap (λ (m : List ℕ). getD m i 0) (map-set-same topTwo l n v 0 e) ∙ List·getD-map topTwo l i 0
 
-stations-top : (f : ℕ → Cell → Cell) → ((i : ℕ) (c : Cell) → f i c .mark / 64 ≡ c .mark / 64) → (n : ℕ) (r : Reaches) (i : ℕ) → topTwoBits i (atStations f n r) ≡ topTwoBits i r
+stations-top : (f : ℕ → Cell → Cell) → ((i : ℕ) (c : Cell) → topTwo (f i c .mark) ≡ topTwo (c .mark)) → (n : ℕ) (r : Reaches) (i : ℕ) → topTwoBits i (atStations f n r) ≡ topTwoBits i r
 unfolding atStations
 stations-top f h zero r i = refl
 stations-top f h (suc n) r i =
@@ -90,10 +89,10 @@ cleared-top zero r i h = absurd (omega arith)
 cleared-top (suc n) r i h = by (decLt i n) (cleared-top n r i)
   where
     by : Dec (i < n) → (i < n → topTwoBits i (cleared n r) ≡ 0) → topTwoBits i (cleared (suc n) r) ≡ 0
-    by (yes l) below = ap (λ (m : ℕ). m / 64) (getD-set-other (cleared n r .marks) n i 0 0 (λ e. omega arith)) ∙ below l
+    by (yes l) below = ap topTwo (getD-set-other (cleared n r .marks) n i 0 0 (λ e. omega arith)) ∙ below l
     by (no f) below =
         let e : i ≡ n = omega arith in
-        ap (λ (k : ℕ). topTwoBits k (cleared (suc n) r)) e ∙ ap (λ (m : ℕ). m / 64) (zeroed (cleared n r .marks) n)
+        ap (λ (k : ℕ). topTwoBits k (cleared (suc n) r)) e ∙ ap topTwo (zeroed (cleared n r .marks) n)
 
 -- the crossings of a step
 six-at-most : (s : Drawn) (c : Call) → length (pointsAt s c) ≤ 6

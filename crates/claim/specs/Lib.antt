@@ -1,8 +1,8 @@
 pub mod DemandThree
 pub mod StationHistory
+pub mod WidestHistory
 pub mod WholeRun
 pub mod WorkedJob
-pub mod WidestHistory
-pub mod LaidPasses
 pub mod NeverWritten
+pub mod LaidPasses
 pub mod PremisesMet

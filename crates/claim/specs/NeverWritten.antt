@@ -19,9 +19,12 @@ use Rattle.stations.specs.Stepping.{StepEnsures}
 use Rattle.run.specs.declared.Ran.the-variants as R
 use Rattle.claim.specs.WholeRun.{Run, Ensured}
 
--- the top two bits of station i's mark, which is a byte
+-- the top two bits of a mark, which is a byte, and those of station i's
+abbrev pub topTwo : ℕ → ℕ
+topTwo mark = mark / 64
+
 abbrev pub topTwoBits : ℕ → Reaches → ℕ
-topTwoBits i r = getD (r .marks) i 0 / 64
+topTwoBits i r = topTwo (getD (r .marks) i 0)
 
 -- a run whose entries from number n on are as before, and its length too
 pub record PastKept {A : Type 0} (n : ℕ) (before after : List A) : Type 0 where

@@ -10,7 +10,7 @@ use Rattle.path.specs.declared.Laid.the-variants as L
 use Rattle.path.specs.Laying.{PathRuns, LayEnsures}
 use Rattle.walk.specs.declared.Walk.{Walk}
 use Rattle.walk.specs.Drawn.{Call, Outcome, made, refused, refusedAt, outcomeOf}
-use Rattle.reaches.specs.Cells.{Reaches}
+use Rattle.reaches.specs.Cells.{Reaches, lengthsOf}
 use Rattle.stations.specs.declared.Placing.{Placing}
 use Rattle.stations.specs.declared.PlaceAnswer.the-variants as P
 use Rattle.stations.specs.Placing.{callOf, PlaceEnsures}
@@ -76,17 +76,19 @@ pub data RunRefused (x : Run) (w : Walk) (m : ℕ) : Type 0 where
 abbrev pub turnAnswers : List Turn → List Outcome
 turnAnswers ts = map (λ (t : Turn). outcomeOf (t .result .answer)) ts
 
--- an accepted placement and step calls after it, with these answers: what `demand_three` speaks of
+-- an accepted placement and step calls after it, each telling the lengths of the runs that it is lent, with these answers: what `demand_three` speaks of
 pub record WalkAnswering (answers : List Outcome) : Type 0 where
   pub vehicle : Vehicle
   pub walk : Walk
-  pub call : Call
+  pub asked : ℕ
+  pub path : PathRuns
   pub before : Reaches
   pub placing : Placing
   pub after : Reaches
-  pub ensured : PlaceEnsures vehicle walk call before placing after
+  pub ensured : PlaceEnsures vehicle walk (callOf asked path before) before placing after
   pub placed : placing .answer ≡ P.Placed
   pub turns : List Turn
+  pub lengths : map (λ (t : Turn). t .call .reaches) turns ≡ map (λ (t : Turn). lengthsOf (t .before)) turns
   pub chain : Chain (placing .walk) turns
   pub answered : turnAnswers turns ≡ answers
 

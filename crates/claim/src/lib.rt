@@ -17,25 +17,25 @@ pub fn station_history()
     ensures { λ _. ⌜ StationHistory ⌝ }
 {}
 
-// Claim: a whole job is laying, placing and step calls until one is refused: the seven runs, the answer, the steps counted and the step named.
-pub fn whole_run()
-    ensures { λ _. ⌜ WholeRun ⌝ }
-{}
-
 // Claim: after an accepted placement and any calls, `widest` answers the station that the whole rig has crossed with the greatest right less left, the lowest number among equals, told from the drawn rig's moves;
 // 24 exactly where there is none, and nothing else; a finished run tells the same of its own walk.
 pub fn widest_history()
     ensures { λ _. ⌜ WidestHistory ⌝ }
 {}
 
-// Claim: 26 never answers on what was laid: its stations pass the test that answers it, and no placement or step over them is refused by that number.
-pub fn laid_passes()
-    ensures { λ _. ⌜ LaidPasses ⌝ }
+// Claim: a whole job is laying, placing and step calls until one is refused: the seven runs, the answer, the steps counted and the step named.
+pub fn whole_run()
+    ensures { λ _. ⌜ WholeRun ⌝ }
 {}
 
 // Claim: no step call touches the top two bits of a mark, which placement and a run clear; laying, placing, stepping and a run write no entry past the stations asked for, and every run keeps its length.
 pub fn never_written()
     ensures { λ _. ⌜ NeverWritten ⌝ }
+{}
+
+// Claim: 26 never answers on what was laid: its stations pass the test that answers it, and no placement or step over them is refused by that number.
+pub fn laid_passes()
+    ensures { λ _. ⌜ LaidPasses ⌝ }
 {}
 
 // Claim: what the claims over calls ask can be met: every entry answers whatever it is handed, any list of step calls can follow any record, the calls of a run that is not refused are there, and some have made steps and refused ones.

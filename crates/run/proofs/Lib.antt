@@ -1,3 +1,4 @@
+pub mod StopLaws
 pub mod WalkingLaws
 pub mod CourseLaws
 pub mod OverLaws

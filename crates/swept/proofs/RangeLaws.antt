@@ -1,22 +1,18 @@
 -- What a job can answer: a run's steps, stations and units in their ranges, with no refusal but 22 and 23; the reader's numbers and bytes.
 use Prim.Native.Nat.{ℕ, zero, suc, _+_, _-_, _≤_, _<_}
 use mathlib.Core.Path.{_≡_, refl, sym, _∙_, subst}
-use mathlib.Core.Bool.{Bool, true, false}
-use mathlib.Core.List.{List, [], _∷_}
-use mathlib.Core.Logic.{_⊎_, inl, inr}
+use mathlib.Core.Bool.{true}
+use mathlib.Core.List.{List}
+use mathlib.Core.Logic.{_⊎_}
 use native.Mathlib.Omega.{arith}
 use lib.ListN.{length, take, length-take}
-use Rattle.number.specs.Read.{refused as refusedRead, pick}
+use Rattle.number.specs.Read.{refused as refusedRead}
 use Rattle.number.proofs.PlaceLaws.{Inside}
-use Rattle.plane.specs.declared.Vec2.{Vec2}
-use Rattle.plane.specs.Vector.{minus}
-use Rattle.job.specs.declared.Unit.{Unit as VehicleUnit}
 use Rattle.job.specs.declared.Job.{Job}
 use Rattle.job.specs.Faults.{judge}
 use Rattle.job_reader.specs.Record.{readJob}
 use Rattle.job_reader.proofs.PlaceLaws.{read-inside}
 use Rattle.job_writer.proofs.Reach.{first-bytes}
-use Rattle.unit.specs.Turn.{turnedBy, tooFar}
 use Rattle.path.specs.Stations.{stations}
 use Rattle.path.specs.Laying.{PathRuns, roomFor}
 use Rattle.path.proofs.JobLaws.{laid-answered}
@@ -24,10 +20,11 @@ use Rattle.path.proofs.SoundLaws.{sound-path}
 use Rattle.walk.specs.declared.Walk.{Walk}
 use Rattle.walk.specs.Drawn.{Drawn, view, Outcome, made, refused, refusedAt, stationAt}
 use Rattle.walk.specs.Tests.{unitsInUse, reachesLent}
-use Rattle.walk.specs.Units.{wheelbaseOf, hitchAt, Ahead, none, behind, foldKept, Turning, turned, stopped, onto, turnUnits}
+use Rattle.walk.specs.Units.{none, Turning, turned, stopped}
 use Rattle.walk.specs.Rig.{startVectors, Stepped, turningOf, afterTurning, drawStep}
 use Rattle.walk.proofs.StartKept.{few-units}
 use Rattle.walk.proofs.RecordTests.{sound-record}
+use Rattle.run.proofs.StopLaws.{StopsIn, units-stop}
 use Rattle.reaches.specs.declared.Best.{Best}
 use Rattle.reaches.specs.declared.Best.the-variants.{Nothing, Found}
 use Rattle.reaches.specs.Cells.{Reaches, lengthsOf, cleared}
@@ -46,29 +43,6 @@ use Rattle.run.proofs.WalkingLaws.{same-call, is-open, made-step}
 use Rattle.run.proofs.OverLaws.{some-asked, placed-going}
 use Rattle.run.proofs.RunLaws.{runnable}
 use Rattle.swept.specs.Ranges.{OnPath, FinishedSo, StoppedSo, RefusedSo}
-
--- a unit that stops the others: 22 or 23, and its number
-abbrev StopsIn : ℕ → ℕ → Turning → Type 0
-StopsIn i k (turned ds) = Unit {0}
-StopsIn i k (stopped n u) = ((n ≡ 22) ⊎ (n ≡ 23)) × (i ≤ u) × (u < i + k)
-
-units-stop : (i : ℕ) (a : Ahead) (us : List VehicleUnit) (ds : List Vec2) (old new : Vec2) → StopsIn i (length us) (turnUnits i a us ds old new)
-unfolding turnUnits
-units-stop i a us [] old new = tt
-units-stop i a [] (d ∷ ds) old new = tt
-units-stop i a (u ∷ us) (d ∷ ds) old new =
-    let f = minus new old in
-    let d' = turnedBy d f (wheelbaseOf u) in
-    by (tooFar f (wheelbaseOf u)) (foldKept a u d') d' (turnUnits (i + 1) (behind u d') us ds (hitchAt u old d) (hitchAt u new d')) (units-stop (i + 1) (behind u d') us ds (hitchAt u old d) (hitchAt u new d'))
-  where
-    later : (x : Vec2) (t : Turning) → StopsIn (i + 1) (length us) t → StopsIn i (suc (length us)) (onto x t)
-    later x (turned es) h = tt
-    later x (stopped n v) h = (h .0, omega (arith, h .1), omega (arith, h .2))
-
-    by : (far fold : Bool) (x : Vec2) (t : Turning) → StopsIn (i + 1) (length us) t → StopsIn i (suc (length us)) (pick far (stopped 22 i) (pick fold (onto x t) (stopped 23 i)))
-    by true fold x t h = (inl refl, omega arith, omega arith)
-    by false true x t h = later x t h
-    by false false x t h = (inr refl, omega arith, omega arith)
 
 -- how a walk whose path ends at the station `last` can end
 abbrev EndsSo : ℕ → Outcome → ℕ → Type 0
