@@ -4,10 +4,9 @@ use mathlib.Core.Path.{_≡_, refl, sym, _∙_, ap, subst}
 use mathlib.Core.Bool.{Bool, true, false, _&&_}
 use mathlib.Core.List.{List, [], _∷_}
 use native.Mathlib.Omega.{arith}
-use borrow.Author.Tests.{leb-true, eqb-true}
-use lib.Dec.{leb, eqb}
+use borrow.Author.Tests.{eqb-true}
+use lib.Dec.{eqb}
 use lib.IntN.{ℤ, pos, _*ℤ_}
-use Rattle.exact.proofs.Order.{pos-≤}
 use Rattle.number.specs.Read.{pick}
 use Rattle.number.proofs.FieldCodec.{both}
 use Rattle.plane.specs.declared.Vec2.{Vec2}
@@ -19,7 +18,7 @@ use Rattle.job.specs.Allowed.{wheelbaseAllowed, hitchAllowed, foldAllowed, unit
 use Rattle.job.specs.Faults.{faultOf, unitFault, unitsFault, vehicleFault}
 use Rattle.job.proofs.FaultLaws.{sound-vehicle, first-none, or-none}
 use Rattle.unit.specs.Turn.{turnedBy, tooFar, mirrorLine, image, Wheelbase, Turnable}
-use Rattle.unit.proofs.UnitTests.{move-of}
+use Rattle.unit.proofs.UnitTests.{wheelbase-of, move-of}
 use Rattle.unit.proofs.Turning.{rule}
 use Rattle.walk.specs.Tests.{vehicleSound, unitsInUse}
 use Rattle.walk.specs.Units.{wheelbaseOf, hitchAt, Ahead, behind, foldKept, Turning, turned, stopped, onto, turnUnits}
@@ -30,18 +29,13 @@ abbrev pub AllWheelbases : List VehicleUnit → Type 0
 AllWheelbases [] = Unit {0}
 AllWheelbases (u ∷ us) = Wheelbase (wheelbaseOf u) × AllWheelbases us
 
-wheelbase-of : (u : VehicleUnit) → wheelbaseAllowed (u .wheelbase) ≡ true → Wheelbase (wheelbaseOf u)
-wheelbase-of u e =
-    let b = both (leb 5000 (u .wheelbase)) (leb (u .wheelbase) 200000) e in
-    record { least = pos-≤ (leb-true 5000 (u .wheelbase) (b .0)); most = pos-≤ (leb-true (u .wheelbase) 200000 (b .1)) }
-
 all-wheelbases : (count i : ℕ) (us : List VehicleUnit) → faultOf (unitFault count) (λ k u. k + 1) (λ k. 0) i us ≡ 0 → AllWheelbases us
 unfolding faultOf
 all-wheelbases count i [] h = tt
 all-wheelbases count i (u ∷ us) h =
     let f = first-none (unitFault count i u) (faultOf (unitFault count) (λ k v. k + 1) (λ k. 0) (i + 1) us) h in
     let a = or-none (unitAllowed (eqb i 0) (eqb (i + 1) count) u) 3 0 (f .0) .0 in (
-      wheelbase-of u (both (wheelbaseAllowed (u .wheelbase)) (hitchAllowed (eqb (i + 1) count) (u .wheelbase) (u .hitch) && foldAllowed (eqb i 0) (u .fold)) a .0),
+      wheelbase-of (u .wheelbase) (both (wheelbaseAllowed (u .wheelbase)) (hitchAllowed (eqb (i + 1) count) (u .wheelbase) (u .hitch) && foldAllowed (eqb i 0) (u .fold)) a .0),
       all-wheelbases count (i + 1) us (f .1),
     )
 

@@ -9,7 +9,7 @@ use lib.ListN.{length, getD, length-take}
 use lib.Seq.{getD-take}
 use lib.IntN.{natAbs}
 use Rattle.exact.specs.Size.{Within}
-use Rattle.exact.proofs.Order.{pos-≤, ≤-pos}
+use Rattle.exact.proofs.Order.{≤-pos}
 use Rattle.number.proofs.FieldCodec.{both}
 use Rattle.job.specs.declared.Unit.{Unit as VehicleUnit}
 use Rattle.job.specs.declared.Vehicle.{Vehicle}
@@ -17,6 +17,7 @@ use Rattle.job.specs.Allowed.{wheelbaseAllowed, hitchMost, hitchAllowed, foldAl
 use Rattle.job.specs.Faults.{vehicleFault, unitFault, unitsFault}
 use Rattle.job.proofs.FaultLaws.{SoundVehicle, sound-vehicle, or-none, fault-at}
 use Rattle.job.proofs.FieldLaws.{hitch-most, fold-size}
+use Rattle.unit.proofs.UnitTests.{wheelbase-of}
 use Rattle.walk.specs.Tests.{vehicleSound, unitsInUse}
 use Rattle.walk.specs.Inner.{UnitReady}
 
@@ -30,9 +31,8 @@ ready first last u e =
     let f = foldAllowed first (u .fold) in
     let p = both (wheelbaseAllowed (u .wheelbase)) (h && f) e in
     let q = both h f (p .1) in
-    let w = bounds 5000 200000 (u .wheelbase) (p .0) in
     record {
-      wheelbase = record { least = pos-≤ (w .0); most = pos-≤ (w .1) };
+      wheelbase = wheelbase-of (u .wheelbase) (p .0);
       hitch = omega (arith, leb-true (natAbs (u .hitch)) (hitchMost last (u .wheelbase)) (q .0), hitch-most last (u .wheelbase));
       fold = record { size = fold-size first (u .fold) (q .1) };
     }

@@ -4,6 +4,7 @@ use mathlib.Core.List.{List}
 use Rattle.plane.specs.declared.Vec2.{Vec2}
 use Rattle.job.specs.declared.Vehicle.{Vehicle}
 use Rattle.path.specs.Laying.{PathRuns}
+-- a station of a path is what laying has there
 pub use Rattle.path.specs.Laying.{stationAt}
 use Rattle.walk.specs.declared.Walk.{Walk}
 use Rattle.walk.specs.declared.StepAnswer.{StepAnswer}
