@@ -1,3 +1,4 @@
 pub mod AnswerLaws
 pub mod CallLaws
+pub mod ClaimLaws
 pub mod Witnesses

@@ -15,6 +15,7 @@ ghost use Rattle.path.specs.Laying.{pathRuns};
 ghost use Rattle.reaches.specs.Cells.{reachRuns};
 ghost use Rattle.turning.specs.Answers.{TellEnsures, Answered, atByte, atUnit, sweepTold, pathTold, unitTold, finishEntries};
 ghost use Rattle.turning.specs.Calls.{SweepCalled, RunCalled};
+ghost use Rattle.turning.specs.Claims.{RefusalWritesNothing};
 ghost use Rattle.turning.specs.Inner.{Room, FinishFits, ByteFits, UnitFits, AnswerFits};
 
 // How many entries the answer run of a job must have.
@@ -185,3 +186,8 @@ pub extern "C" fn turning_unit_turn(
         UnitTurn::Refused(number) => number as u32,
     }
 }
+
+// Claim: where a call refuses, it has written nothing.
+pub fn refusal_writes_nothing()
+    ensures { λ _. ⌜ RefusalWritesNothing ⌝ }
+{}
