@@ -3,11 +3,9 @@ use job::Curve;
 use job::Element;
 use job::Job;
 use job::Side;
-use job::Start;
-use job::Unit;
-use job::Vehicle;
 use path::Laid;
 use plane::Vec2;
+use trial_tools::rigs;
 ghost use mathlib.Core.Path.{_≡_};
 ghost use Rattle.path.specs.Laying.{pathRuns, layAnswer};
 ghost use Rattle.path_trials.specs.Ends.{endOf, refusalOf, Measurable, BothMeasurable};
@@ -71,78 +69,23 @@ fn distance(a: Vec2, b: Vec2) -> u32
     root_above(plane::dot(d, d))
 }
 
-// Document 002's tractor and trailer.
-fn sample_vehicle() -> Vehicle {
-    let mut units = job::empty_units();
-    units[0] = Unit {
-        wheelbase: 43000,
-        hitch: 1800,
-        fold: 0,
-    };
-    units[1] = Unit {
-        wheelbase: 69300,
-        hitch: 0,
-        fold: 0,
-    };
-    Vehicle {
-        count: 2,
-        units,
-        overhang: 15000,
-        front_half_width: 12500,
-        rear_half_width: 12500,
-    }
-}
-
-// From the origin eastwards: 6 m straight, an arc to the right of 10 m radius, 20 m straight, in steps of 0.5 m.
+// Document 002's sample path with an arc of so much on 10 m.
 fn sample_job(arc: u32) -> Job {
-    let vehicle = sample_vehicle();
-    let mut elements = job::empty_elements();
-    elements[0] = Element {
-        length: 60000,
-        curve: Curve::Straight,
-    };
-    elements[1] = Element {
-        length: arc,
-        curve: Curve::Arc(Side::Right, 100000),
-    };
-    elements[2] = Element {
-        length: 200000,
-        curve: Curve::Straight,
-    };
-    Job {
-        vehicle,
-        start: Start {
-            x: 0,
-            y: 0,
-            gx: 1000000,
-            gy: 0,
-        },
-        step: 5000,
-        count: 3,
-        elements,
-    }
+    rigs::sample_job(0, arc, 100000)
 }
 
 // From the origin northwards: 4 km on one curve in 2,000 steps, and a straight of one tick where asked for.
 fn long_job(curve: Curve, count: usize) -> Job {
-    let vehicle = sample_vehicle();
+    let vehicle = rigs::sample_vehicle(0);
     let mut elements = job::empty_elements();
     elements[0] = Element {
         length: 40000000,
         curve,
     };
-    elements[1] = Element {
-        length: 1,
-        curve: Curve::Straight,
-    };
+    elements[1] = rigs::straight(1);
     Job {
         vehicle,
-        start: Start {
-            x: 0,
-            y: 0,
-            gx: 0,
-            gy: 1000000,
-        },
+        start: rigs::heading_for(0, 1000000),
         step: 20000,
         count,
         elements,

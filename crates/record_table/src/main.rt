@@ -77,33 +77,38 @@ pub struct Parsed {
     pub next: usize,
 }
 
-// The next number: digits, and perhaps a minus right before them; whatever else stands before it is passed over.
-fn parse(s: &[u8], from: usize) -> Parsed {
-    let mut size: u32 = 0;
-    let mut negative = false;
-    let mut seen = false;
+// Where the next digit stands.
+fn digit_from(s: &[u8], from: usize) -> usize {
     let mut i = from;
     while i < s.len() {
         let b = s[i];
-        i += 1;
         if (48 <= b) & (b <= 57) {
-            size = size % 100000000 * 10 + (b % 48) as u32;
-            seen = true;
-        } else {
-            if seen {
-                return Parsed {
-                    size,
-                    negative,
-                    next: i,
-                };
-            }
-            negative = b == 45;
+            return i;
+        }
+        i += 1;
+    }
+    i
+}
+
+// Whether a minus stands right before a place.
+fn minus_before(s: &[u8], at: usize) -> bool {
+    if 0 < at {
+        if at <= s.len() {
+            return s[at - 1] == 45;
         }
     }
+    false
+}
+
+// The next number: digits, and perhaps a minus right before them; whatever else stands before it is passed over, and one byte behind it.
+fn parse(s: &[u8], from: usize) -> Parsed {
+    let start = digit_from(s, from);
+    let d = trial_tools::reading::read_digits(s, start);
+    let at = d.at;
     Parsed {
-        size,
-        negative,
-        next: i,
+        size: (d.size % 1000000000) as u32,
+        negative: minus_before(s, start),
+        next: if at < s.len() { at + 1 } else { at },
     }
 }
 

@@ -4,99 +4,25 @@ mod spread;
 mod table;
 
 use crate::spread::SQUARES;
-use crate::spread::UNMEASURED;
 use crate::table::Cell;
-use job::Curve;
-use job::Element;
 use job::Job;
-use job::Side;
-use job::Start;
-use job::Unit;
 use job::Vehicle;
 use libc::STDOUT_FILENO;
 use path::Laid;
 use plane::Vec2;
+use trial_tools::places;
+use trial_tools::places::UNMEASURED;
+use trial_tools::rigs;
 use walk::Walk;
-
-// Document 002's tractor and trailer; its listing has no fold limit.
-fn sample_vehicle() -> Vehicle {
-    let mut units = job::empty_units();
-    units[0] = Unit {
-        wheelbase: 43000,
-        hitch: 1800,
-        fold: 0,
-    };
-    units[1] = Unit {
-        wheelbase: 69300,
-        hitch: 0,
-        fold: -1000,
-    };
-    Vehicle {
-        count: 2,
-        units,
-        overhang: 15000,
-        front_half_width: 12500,
-        rear_half_width: 12500,
-    }
-}
-
-fn straight(length: u32) -> Element {
-    Element {
-        length,
-        curve: Curve::Straight,
-    }
-}
 
 // From the origin eastwards: 6 m straight, a full turn to the right on 7.5 m, 20 m straight, in steps of 0.5 m.
 fn full_turn() -> Job {
-    let vehicle = sample_vehicle();
-    let mut elements = job::empty_elements();
-    elements[0] = straight(60000);
-    elements[1] = Element {
-        length: 471240,
-        curve: Curve::Arc(Side::Right, 75000),
-    };
-    elements[2] = straight(200000);
-    Job {
-        vehicle,
-        start: Start {
-            x: 0,
-            y: 0,
-            gx: 1000000,
-            gy: 0,
-        },
-        step: 5000,
-        count: 3,
-        elements,
-    }
-}
-
-// A record that no walk has used yet.
-fn no_walk(v: Vehicle) -> Walk {
-    Walk {
-        vehicle: v,
-        station: 0,
-        d: [Vec2 { x: 0, y: 0 }; 4],
-    }
-}
-
-// The rig's points at the station reached; all at the origin where path or record do not pass their tests.
-fn points_at(w: Walk, asked: usize, xs: &[i32], ys: &[i32], gxs: &[i32], gys: &[i32]) -> [Vec2; 6] {
-    if walk::tests::path_lent(asked, xs, ys, gxs, gys) {
-        if walk::tests::path_sound(asked, xs, ys, gxs, gys) {
-            if walk::tests::record_sound(asked, w) {
-                let here = walk::tests::station_at(xs, ys, gxs, gys, w.station);
-                let d = w.d;
-                return points::points(w.vehicle, d, here.position);
-            }
-        }
-    }
-    [Vec2 { x: 0, y: 0 }; 6]
+    rigs::sample_job(-1000, 471240, 75000)
 }
 
 fn cell_square(c: Cell, drawn: Vec2) -> i64 {
     if c.legible {
-        return spread::square_between(c.place, drawn);
+        return places::square_between(c.place, drawn);
     }
     UNMEASURED
 }
@@ -139,7 +65,7 @@ fn measure_station(
     if row != w.station {
         return from;
     }
-    let drawn = points_at(w, asked, xs, ys, gxs, gys);
+    let drawn = places::points_at(w, asked, xs, ys, gxs, gys);
     measure_row(text, number.next, row, drawn, squares)
 }
 
@@ -157,7 +83,18 @@ fn measure_walk(
     text: &[u8],
     squares: &mut [i64; SQUARES],
 ) -> usize {
-    let placing = stations::place(v, no_walk(v), asked, xs, ys, gxs, gys, left, right, marks);
+    let placing = stations::place(
+        v,
+        rigs::no_walk(v),
+        asked,
+        xs,
+        ys,
+        gxs,
+        gys,
+        left,
+        right,
+        marks,
+    );
     let mut w = placing.walk;
     let mut at: usize = 0;
     let mut rows: usize = 0;

@@ -30,21 +30,13 @@ fn figure_start(s: &[u8], from: usize) -> usize {
 
 // The digits from a place on; of ten digits and more the last nine.
 fn digits(s: &[u8], from: usize, negative: bool) -> Figure {
-    let mut size: u32 = 0;
-    let mut i = from;
-    while i < s.len() {
-        let b = s[i];
-        if (b < 48) | (57 < b) {
-            break;
-        }
-        size = size % 100000000 * 10 + (b % 48) as u32;
-        i += 1;
-    }
+    let d = trial_tools::reading::read_digits(s, from);
+    let next = d.at;
     Figure {
-        legible: from < i,
+        legible: from < next,
         negative,
-        size,
-        next: i,
+        size: (d.size % 1000000000) as u32,
+        next,
     }
 }
 

@@ -1,26 +1,12 @@
 // Walks three rigs from the first station of their paths to the last, and checks how many steps they make and where they are widest.
-use job::Curve;
-use job::Element;
 use job::Job;
-use job::Side;
-use job::Start;
-use job::Unit;
 use job::Vehicle;
 use path::Laid;
-use plane::Vec2;
 use reaches::Place;
 use reaches::WidestAnswer;
+use trial_tools::rigs;
 use walk::StepAnswer;
 use walk::Walk;
-
-// A record that no walk has used yet.
-fn no_walk(v: Vehicle) -> Walk {
-    Walk {
-        vehicle: v,
-        station: 0,
-        d: [Vec2 { x: 0, y: 0 }; 4],
-    }
-}
 
 fn is_made(a: StepAnswer) -> bool {
     match a {
@@ -42,7 +28,18 @@ fn steps_made(
     right: &mut [i32],
     marks: &mut [u8],
 ) -> usize {
-    let placing = stations::place(v, no_walk(v), asked, xs, ys, gxs, gys, left, right, marks);
+    let placing = stations::place(
+        v,
+        rigs::no_walk(v),
+        asked,
+        xs,
+        ys,
+        gxs,
+        gys,
+        left,
+        right,
+        marks,
+    );
     let mut w = placing.walk;
     let mut made: usize = 0;
     while made < asked {
@@ -110,39 +107,12 @@ fn report(name: &[u8], steps: usize, station: usize, passed: bool) {
     io::write_all(1, b": FAILED\n");
 }
 
-fn unit(wheelbase: u32, hitch: i32, fold: i32) -> Unit {
-    Unit {
-        wheelbase,
-        hitch,
-        fold,
-    }
-}
-
-fn straight(length: u32) -> Element {
-    Element {
-        length,
-        curve: Curve::Straight,
-    }
-}
-
-fn right_turn(length: u32, radius: u32) -> Element {
-    Element {
-        length,
-        curve: Curve::Arc(Side::Right, radius),
-    }
-}
-
-// A start at the origin.
-fn heading_for(gx: i32, gy: i32) -> Start {
-    Start { x: 0, y: 0, gx, gy }
-}
-
 // The worked straight: one unit of 5 m, its body 2.4 m wide and 1 m ahead of the front axle, 6.5 m due north in steps of 0.5 m.
 fn straight_job() -> Job {
     let mut units = job::empty_units();
-    units[0] = unit(50000, 0, 0);
+    units[0] = rigs::unit(50000, 0, 0);
     let mut elements = job::empty_elements();
-    elements[0] = straight(65000);
+    elements[0] = rigs::straight(65000);
     let vehicle = Vehicle {
         count: 1,
         units,
@@ -152,7 +122,7 @@ fn straight_job() -> Job {
     };
     Job {
         vehicle,
-        start: heading_for(0, 1000000),
+        start: rigs::heading_for(0, 1000000),
         step: 5000,
         count: 1,
         elements,
@@ -161,38 +131,18 @@ fn straight_job() -> Job {
 
 // A tractor of 4.3 m and a trailer of 6.93 m: 6 m east, a quarter turn to the right on 10 m, 20 m south, in steps of 0.5 m.
 fn quarter_job() -> Job {
-    let mut units = job::empty_units();
-    units[0] = unit(43000, 1800, 0);
-    units[1] = unit(69300, 0, 0);
-    let mut elements = job::empty_elements();
-    elements[0] = straight(60000);
-    elements[1] = right_turn(157080, 100000);
-    elements[2] = straight(200000);
-    let vehicle = Vehicle {
-        count: 2,
-        units,
-        overhang: 15000,
-        front_half_width: 12500,
-        rear_half_width: 12500,
-    };
-    Job {
-        vehicle,
-        start: heading_for(1000000, 0),
-        step: 5000,
-        count: 3,
-        elements,
-    }
+    rigs::sample_job(0, 157080, 100000)
 }
 
 // Four units on an arc of 100 m to the right: 4 km in 2,000 steps of 2 m, the most that a job has.
 fn longest_job() -> Job {
     let mut units = job::empty_units();
-    units[0] = unit(50000, -1000, 0);
-    units[1] = unit(60000, 1000, -1000);
-    units[2] = unit(50000, -1000, -1000);
-    units[3] = unit(60000, 0, -1000);
+    units[0] = rigs::unit(50000, -1000, 0);
+    units[1] = rigs::unit(60000, 1000, -1000);
+    units[2] = rigs::unit(50000, -1000, -1000);
+    units[3] = rigs::unit(60000, 0, -1000);
     let mut elements = job::empty_elements();
-    elements[0] = right_turn(40000000, 1000000);
+    elements[0] = rigs::right_turn(40000000, 1000000);
     let vehicle = Vehicle {
         count: 4,
         units,
@@ -202,7 +152,7 @@ fn longest_job() -> Job {
     };
     Job {
         vehicle,
-        start: heading_for(0, 1000000),
+        start: rigs::heading_for(0, 1000000),
         step: 20000,
         count: 1,
         elements,

@@ -1,16 +1,16 @@
--- `turn_trials::table::digits` is safe and ends.
+-- `record_table::digit_from` is safe and ends.
 use Prim.Native.Nat.{_-_, _≤_}
 use native.Mathlib.Omega.{arith}
 use borrow.Author.Needs.{needs}
 use lib.ListN.{length}
-use Rattle.turn_trials.proofs.table.digits.Statement.{statement}
-use Rattle.turn_trials.proofs.table.digits.Tie as tie
+use Rattle.record_table.proofs.digit_from.Statement.{statement}
+use Rattle.record_table.proofs.digit_from.Tie as tie
 
 abbrev Inv-loop : tie.InvT-loop
-Inv-loop s from negative size₀ i₀ size i = 0 ≤ i
+Inv-loop s from i₀ i = 0 ≤ i
 
 abbrev μ-loop : tie.MeasureT-loop
-μ-loop s from negative size₀ i₀ size i = length s - i
+μ-loop s from i₀ i = length s - i
 
 loop-holds : tie.Need-loop-holds Inv-loop μ-loop
 loop-holds c = omega arith
@@ -18,14 +18,8 @@ loop-holds c = omega arith
 shared-slice-read-b : tie.Need-shared-slice-read-b Inv-loop μ-loop
 shared-slice-read-b c = omega arith
 
-mul-size : tie.Need-mul-size Inv-loop μ-loop
-mul-size c = search needs
-
-cast-size : tie.Need-cast-size Inv-loop μ-loop
-cast-size c = search needs
-
-add-size : tie.Need-add-size Inv-loop μ-loop
-add-size c = omega arith
+returns : tie.Need-returns Inv-loop μ-loop
+returns c = search needs
 
 add-i : tie.Need-add-i Inv-loop μ-loop
 add-i c = search needs
@@ -36,21 +30,19 @@ loop-less c = search needs
 loop-again : tie.Need-loop-again Inv-loop μ-loop
 loop-again c = omega arith
 
-returns : tie.Need-returns Inv-loop μ-loop
-returns c = search needs
+returns-2 : tie.Need-returns-2 Inv-loop μ-loop
+returns-2 c = search needs
 
-pub digits-spec : {M : Type 1} → statement M
-digits-spec =
+pub digit-from-spec : {M : Type 1} → statement M
+digit-from-spec =
     tie.close
     (tie.spec
     Inv-loop
     μ-loop
     loop-holds
     shared-slice-read-b
-    mul-size
-    cast-size
-    add-size
+    returns
     add-i
     loop-less
     loop-again
-    returns)
+    returns-2)

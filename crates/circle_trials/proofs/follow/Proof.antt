@@ -1,0 +1,72 @@
+-- `circle_trials::follow` is safe and ends.
+use Prim.Native.Nat.{_-_, _≤_}
+use mathlib.Core.Path.{_≡_}
+use lib.ListN.{length}
+use native.Mathlib.Omega.{arith}
+use borrow.Author.Needs.{needs}
+use Rattle.circle_trials.proofs.follow.Statement.{statement}
+use Rattle.circle_trials.proofs.follow.Tie as tie
+
+abbrev Inv-loop : tie.InvT-loop
+Inv-loop line t asked xs ys gxs gys left₀ right₀ marks₀ w₀ f₀ made₀ left right marks w f made = (made ≤ asked) × (length left ≡ length left₀) × (length right ≡ length right₀) × (length marks ≡ length marks₀)
+
+abbrev μ-loop : tie.MeasureT-loop
+μ-loop line t asked xs ys gxs gys left₀ right₀ marks₀ w₀ f₀ made₀ left right marks w f made = asked - made
+
+no-walk-requires : tie.Need-no-walk-requires Inv-loop μ-loop
+no-walk-requires c κs = search needs
+
+place-requires : tie.Need-place-requires Inv-loop μ-loop
+place-requires c κs = search needs
+
+loop-holds : tie.Need-loop-holds Inv-loop μ-loop
+loop-holds c = search needs
+
+measured-requires : tie.Need-measured-requires Inv-loop μ-loop
+measured-requires c κs = search needs
+
+add-made : tie.Need-add-made Inv-loop μ-loop
+add-made c =
+    let i = c .before in
+    let s = i .before .before .before .before .before .before .before .before .before .before .before .before .before .before .before in
+    record { fits = omega (arith, i .loop-test .taken, s .fits .asked .fits) }
+
+step-requires : tie.Need-step-requires Inv-loop μ-loop
+step-requires c κs = search needs
+
+loop-less : tie.Need-loop-less Inv-loop μ-loop
+loop-less c = search needs
+
+loop-again : tie.Need-loop-again Inv-loop μ-loop
+loop-again c = search needs
+
+same-length : tie.Need-same-length Inv-loop μ-loop
+same-length c = search needs
+
+same-length-2 : tie.Need-same-length-2 Inv-loop μ-loop
+same-length-2 c = search needs
+
+same-length-3 : tie.Need-same-length-3 Inv-loop μ-loop
+same-length-3 c = search needs
+
+returns : tie.Need-returns Inv-loop μ-loop
+returns c = search needs
+
+pub follow-spec : {M : Type 1} → statement M
+follow-spec =
+    tie.close
+    (tie.spec
+    Inv-loop
+    μ-loop
+    no-walk-requires
+    place-requires
+    loop-holds
+    measured-requires
+    add-made
+    step-requires
+    loop-less
+    loop-again
+    same-length
+    same-length-2
+    same-length-3
+    returns)
