@@ -1,9 +1,12 @@
 pub mod CallsKept
+pub mod DrawnCalls
 pub mod HistoryLaws
 pub mod HistoryKept
 pub mod WholeRig
 pub mod RunFollows
 pub mod RunKept
+pub mod EnteredLaws
+pub mod EnteredKept
 pub mod WidestKept
 pub mod RunWidest
 pub mod Example
