@@ -10,11 +10,12 @@ use Rattle.claim.specs.WidestHistory.{WidestHistory}
 use Rattle.claim.proofs.HistoryKept.{kept, left-as-was}
 use Rattle.claim.proofs.WidestKept.{asked-told}
 use Rattle.claim.proofs.RunWidest.{ran-told}
+use Rattle.claim.proofs.EnteredKept.{entered}
 use Rattle.claim.proofs.Example.{example, example-lawful, noCalls, no-calls-lawful}
 use Rattle.claim.proofs.WorkedRun.{workedRun, worked-ensured}
 
 pub station-history : StationHistory
-station-history = record { kept = kept; refusedLeaves = left-as-was; someCalls = (example, example-lawful, refl) }
+station-history = record { kept = kept; entered = entered; refusedLeaves = left-as-was; someCalls = (example, example-lawful, refl) }
 
 pub widest-history : WidestHistory
 unfolding runsLeft widestAmong widestLent widestAnswer

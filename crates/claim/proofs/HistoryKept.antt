@@ -156,7 +156,7 @@ module _ (h : History) (l : Lawful h) where
   abbrev start : Drawn
   start = drawnStart (h .vehicle) (startHeading (placeCall h))
 
-  none : placeRefusal (h .vehicle) (placeCall h) ≡ 0
+  pub none : placeRefusal (h .vehicle) (placeCall h) ≡ 0
   none = none-refused (placeRefusal (h .vehicle) (placeCall h)) (sym (l .placement .answered) ∙ l .accepted)
 
   pub call-lent : lent (placeCall h) ≡ true

@@ -5,11 +5,14 @@ pub mod CallsMade
 pub mod CallsThere
 pub mod RefusedThere
 pub mod CallsWitness
+pub mod DrawnCalls
 pub mod HistoryLaws
 pub mod HistoryKept
 pub mod WholeRig
 pub mod RunFollows
 pub mod RunKept
+pub mod EnteredLaws
+pub mod EnteredKept
 pub mod WidestKept
 pub mod RunWidest
 pub mod Example

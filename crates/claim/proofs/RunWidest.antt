@@ -1,5 +1,5 @@
 -- A finished run against the moves of the drawn rig over the path that it laid.
-use Prim.Native.Nat.{ℕ, zero, suc, _+_, _-_, _<_}
+use Prim.Native.Nat.{ℕ, zero, suc, _+_, _<_}
 use mathlib.Core.Path.{_≡_, refl, sym, _∙_, ap, ap₂, subst}
 use mathlib.Core.Bool.{Bool, true, false, _&&_}
 use mathlib.Core.List.{List, _∷_}
@@ -15,9 +15,8 @@ use Rattle.path.specs.Stations.{stations}
 use Rattle.path.specs.Laying.{PathRuns, roomFor}
 use Rattle.path.proofs.JobLaws.{laid-answered, stations-count}
 use Rattle.walk.specs.Drawn.{Drawn, Call, stationAt, Outcome, made, refused, refusedAt}
-use Rattle.walk.specs.Tests.{lent, pathSound, recordSound, atLast, reachesLent}
-use Rattle.walk.specs.Units.{Turning, turned, stopped}
-use Rattle.walk.specs.Rig.{drawnStart, turningOf, afterTurning, turnedDown, drawStep}
+use Rattle.walk.specs.Tests.{reachesLent}
+use Rattle.walk.specs.Rig.{drawnStart, drawStep}
 use Rattle.reaches.specs.declared.Best.{Best}
 use Rattle.reaches.specs.declared.Best.the-variants.{Nothing, Found}
 use Rattle.reaches.specs.Cells.{Reaches, lengthsOf, cellAt, clearedCell, cleared}
@@ -36,28 +35,13 @@ use Rattle.run.specs.Run.{finishAt, ranBy, ranOver, ranAnswer, runRefusal, jobP
 use Rattle.run.proofs.WalkingLaws.{same-call}
 use Rattle.run.proofs.RunLaws.{runnable}
 use Rattle.claim.specs.DemandThree.{drawnAnswers}
-use Rattle.claim.specs.StationHistory.{Moves, movesIn, madeMoves}
+use Rattle.claim.specs.StationHistory.{movesIn, madeMoves}
 use Rattle.claim.specs.WholeRun.{Run, Ensured}
 use Rattle.claim.specs.WidestHistory.{Tells, FinishTold}
 use Rattle.claim.proofs.HistoryLaws.{KeptFrom, kept-none}
 use Rattle.claim.proofs.HistoryKept.{six-points, after-call, from-cleared, cleared-cell}
+use Rattle.claim.proofs.DrawnCalls.{one-on}
 use Rattle.claim.proofs.WidestKept.{best-tells}
-
--- a made call advances the station by one
-module _ (s : Drawn) (c : Call) where
-  by-tests : (a b d e : Bool) (t : Turning)
-      → let x = pick a (pick b (pick d (pick e (turnedDown s 25) (afterTurning s t)) (turnedDown s 27)) (turnedDown s 26)) (turnedDown s 21) in
-      x .answer ≡ made → x .state .station ≡ s .station + 1
-  by-tests false b d e t m = absurd (refused-not-made 21 m)
-  by-tests true false d e t m = absurd (refused-not-made 26 m)
-  by-tests true true false e t m = absurd (refused-not-made 27 m)
-  by-tests true true true true t m = absurd (refused-not-made 25 m)
-  by-tests true true true false (turned ds) m = refl
-  by-tests true true true false (stopped n u) m = absurd (unit-not-made n u m)
-
-  one-on : drawStep s c .answer ≡ made → drawStep s c .state .station ≡ s .station + 1
-  unfolding drawStep
-  one-on m = by-tests (lent c) (pathSound (c .asked) (c .path)) (recordSound (c .asked) s) (atLast (c .asked) s) (turningOf s c) m
 
 module _ (asked : ℕ) (path : PathRuns) where
   -- the runs after a made call

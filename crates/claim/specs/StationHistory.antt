@@ -2,9 +2,10 @@
 use Prim.Native.Nat.{ℕ, _<_}
 use mathlib.Core.Path.{_≡_}
 use mathlib.Core.Bool.{Bool, true, false, _||_}
-use mathlib.Core.List.{List, [], _∷_, _++_, map}
-use lib.ListN.{getD}
+use mathlib.Core.List.{List, [], _∷_, _++_, map, List·Memᴰ}
+use lib.ListN.{length, getD}
 use lib.IntN.{ℤ}
+use lib.Signed.{_≤ℤ_}
 use Rattle.number.specs.Read.{pick}
 use Rattle.plane.specs.declared.Vec2.{Vec2}
 use Rattle.job.specs.declared.Vehicle.{Vehicle}
@@ -79,6 +80,13 @@ pub record Kept (s : Station) (ms : List Moves) (c : Cell) : Type 0 where
   pub whole : complete sixPoints c ≡ true → AllCrossed s ms
   pub onlyWhole : AllCrossed s ms → complete sixPoints c ≡ true
 
+-- the least and the greatest of some numbers are two of them
+pub record Extremes (zs : List ℤ) (l r : ℤ) : Type 0 where
+  pub least : List·Memᴰ l zs
+  pub noneLess : (z : ℤ) → List·Memᴰ z zs → l ≤ℤ z
+  pub greatest : List·Memᴰ r zs
+  pub noneGreater : (z : ℤ) → List·Memᴰ z zs → z ≤ℤ r
+
 -- a placement on a path and the step calls after it: what was handed over, what was answered and what the runs held
 pub record History : Type 0 where
   pub vehicle : Vehicle
@@ -128,8 +136,11 @@ abbrev pub answersOf : History → List Outcome
 answersOf h = map (λ (t : Turn). outcomeOf (t .result .answer)) (h .turns)
 
 -- the claim: after an accepted placement and any calls every station of its path has kept just what the made steps gave it;
+-- where any point has crossed, left and right are reaches that entered, the cleared values lying beyond them all (a vehicle has four places for units, by its type);
 -- a refused call leaves the runs that it was lent, so those of the placement stay where it was lent them; and there are such calls, refused ones between made ones
 pub record StationHistory : Type 0 where
   pub kept : (h : History) → Lawful h → (i : ℕ) → i < h .asked → Kept (stationAt (h .path) i) (movesOf h) (cellAt i (runsOf h))
+  pub entered : (h : History) → Lawful h → length (h .vehicle .units) ≡ 4 → (i : ℕ) → i < h .asked → let s = stationAt (h .path) i in
+      (p : ℕ) → p < 6 → everCrossed p s (movesOf h) ≡ true → Extremes (entering s (movesOf h)) (leftOf s (movesOf h)) (rightOf s (movesOf h))
   pub refusedLeaves : (w : Walk) (t : Turn) → StepEnsures w (t .call) (t .before) (t .result) (t .after) → (outcomeOf (t .result .answer) ≡ made → ⊥) → t .after ≡ t .before
   pub someCalls : (h : History) × Lawful h × (answersOf h ≡ made ∷ refused 21 ∷ refused 26 ∷ made ∷ refused 27 ∷ refusedAt 22 1 ∷ made ∷ refused 25 ∷ [])
