@@ -37,9 +37,10 @@ pub width-sized : {v : Vehicle} → BodySized v → (b : Base) → Within 20000 
 width-sized b Front = record { size = b .frontHalfWidth }
 width-sized b Rear = record { size = b .rearHalfWidth }
 
+-- with either sign
 pub side-sized : {w : ℤ} (s : Side) → Within 20000 w → Within 20000 (sideOf s w)
-side-sized Left p = within-neg p
-side-sized Right p = p
+side-sized Left p = search (p, within-neg p)
+side-sized Right p = search (p, within-neg p)
 
 pub end-sized : {f r : End} (b : Base) → EndSized f → EndSized r → EndSized (endOf b f r)
 end-sized Front p q = p

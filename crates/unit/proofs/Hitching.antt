@@ -17,6 +17,14 @@ use Rattle.unit.specs.Turn.{Wheelbase, UnitSized}
 use Rattle.unit.specs.Coupling.{hitchOffset, opposite, HitchRule}
 use Rattle.unit.proofs.UnitSizes.{wheelbase-positive}
 
+-- a hitch behind the axle lies opposite the one ahead of it
+hitch-behind : (d : Vec2) (h l : ℤ) → pos 1 ≤ℤ l → hitchOffset d (negℤ h) l ≡ opposite (hitchOffset d h l)
+unfolding hitchOffset
+hitch-behind d h l l1 =
+    let other : (x : ℤ) → nearestZ (x *ℤ negℤ h) l ≡ negℤ (nearestZ (x *ℤ h) l) =
+    λ x. ap (λ (n : ℤ). nearestZ n l) (*ℤ-neg-r x h) ∙ nearest-odd (x *ℤ h) l l1 in
+    λ i. record { x = other (d .x) i; y = other (d .y) i }
+
 -- L ahead of the rear axle lies the front point
 pub hitch-at-front : (d : Vec2) (l : ℤ) → pos 1 ≤ℤ l → hitchOffset d l l ≡ d
 unfolding hitchOffset
@@ -31,14 +39,6 @@ hitch-at-axle d l l1 =
     let none : (x : ℤ) → nearestZ (x *ℤ pos 0) l ≡ pos 0 =
     λ x. ap (λ (n : ℤ). nearestZ n l) (*ℤ-zero x ∙ sym (*ℤ-zero l)) ∙ nearest-multiple (pos 0) l l1 in
     λ i. record { x = none (d .x) i; y = none (d .y) i }
-
--- a hitch behind the axle lies opposite the one ahead of it
-hitch-behind : (d : Vec2) (h l : ℤ) → pos 1 ≤ℤ l → hitchOffset d (negℤ h) l ≡ opposite (hitchOffset d h l)
-unfolding hitchOffset
-hitch-behind d h l l1 =
-    let other : (x : ℤ) → nearestZ (x *ℤ negℤ h) l ≡ negℤ (nearestZ (x *ℤ h) l) =
-    λ x. ap (λ (n : ℤ). nearestZ n l) (*ℤ-neg-r x h) ∙ nearest-odd (x *ℤ h) l l1 in
-    λ i. record { x = other (d .x) i; y = other (d .y) i }
 
 pub hitch-rule : HitchRule
 hitch-rule = record {
