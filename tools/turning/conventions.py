@@ -1,12 +1,14 @@
 """Calls for the paper's conventions, one named group for each: where a sentence could be taken two ways, the rows tell which it is."""
 
+from math import isqrt
+
 from .call_records import BASE, four_runs
 from .call_records import with_unit as job_with_unit
 from .call_stations import one_short, standing_still, with_entry
 from .call_walks import (EMPTY_RECORD, LEAST_I32, MOST_I32, ODD_RECORD, laid, midway, small_job, stale_reaches,
                          with_unit, with_vector, with_vehicle)
 from .calls import line_lay, line_path_turn, line_place, line_step, line_write
-from .plane import N, nearest_vector, plus, right_normal, times
+from .plane import N, dot, has_length, minus, nearest_vector, plus, right_normal, times
 from .record import LEFT, NO_UNIT, RIGHT, STRAIGHT, Unit, Vehicle
 from .walk import CLEARED_LEFT, CLEARED_RIGHT, ZERO, Runs, Walk, points_of, turned
 
@@ -171,6 +173,31 @@ def crossing_edges():
     return lines + [passing(g, [(0, 400), (3_000, -400), (1, 0), (3_001, 0)]) for g in (NORTH, EAST, SOUTH, WEST)]
 
 
+def headings_across(m):
+    """Headings g with m . g = 1; none where the coordinates have a common divisor."""
+    (ax, ay), (nx, ny), square = shortest_solution(*m), (m[1], -m[0]), m[0] ** 2 + m[1] ** 2
+    for sign in (-1, 1):
+        most = (sign * isqrt(N * N * square) - (ax * nx + ay * ny)) // square
+        for t in range(most - 2, most + 3):
+            g = (ax + t * nx, ay + t * ny)
+            if has_length(g, N) and dot(m, g) == 1:
+                yield g
+
+
+def one_apart():
+    """A point's product goes from 0 to 1, and from -1 to 0."""
+    vehicle, d, lines = one_unit(5_000, (300, 1_500, 1_000)), (0, 5_000), []
+    olds = points_of(vehicle, [d], ZERO)
+    for f in ((1, 2), (-1, 3), (-3, 4), (5, 7), (3, 2), (7, 10)):
+        news = points_of(vehicle, [turned(d, f, 5_000)], f)
+        for p in (1, 2, 3):
+            for g in list(headings_across(minus(news[p], olds[p])))[:1]:
+                for place in (olds[p], news[p]):
+                    runs = runs_through([ZERO, f, place], [NORTH, NORTH, g])
+                    lines.append(line_step(Walk(vehicle, 0, [d] + [ZERO] * 3), 3, runs))
+    return lines
+
+
 def first_and_last():
     """Straight on from station 1 to station 2, the last: the front crosses it, the rear axle station 0."""
     lines = []
@@ -257,6 +284,7 @@ CALL_GROUPS = [
     ("26 before 27", path_before_record),
     ("a station as large as the stations asked for is 27", station_beyond),
     ("from below 0 to 0 or more", crossing_edges),
+    ("from 0 to 1 and from -1 to 0", one_apart),
     ("station 0 and the last station are crossed", first_and_last),
     ("21, 26, 27, 25 as each is mended", mended_one_by_one),
     ("21 before 26, 27 before 25, 25 before 22", two_at_once),

@@ -150,16 +150,13 @@ pub struct Tally {
 fn tallied(text: &[u8]) -> Tally {
     let mut lines: usize = 0;
     let mut good: usize = 0;
-    if 131072 < text.len() {
-        return Tally { lines, good };
-    }
     let mut at: usize = 0;
     while at < text.len() {
-        let rest = &text[at..];
-        let end = find(rest, 10);
+        let l = trial_tools::lines::line_at(text, at);
+        let end = l.end;
         lines += 1;
-        good += held(&rest[..end], lines);
-        at = at + end + 1;
+        good += held(&text[at..end], lines);
+        at = l.next;
     }
     Tally { lines, good }
 }
