@@ -14,11 +14,11 @@ use Rattle.number.specs.Read.{pick}
 use Rattle.plane.specs.declared.Vec2.{Vec2}
 use Rattle.job.specs.declared.Vehicle.{Vehicle}
 use Rattle.path.specs.declared.Station.{Station}
+use Rattle.path.specs.Laying.{SoundStation}
 use Rattle.walk.specs.declared.Walk.{Walk}
 use Rattle.walk.specs.Drawn.{Drawn, Call, stationAt, Outcome, made, refused, refusedAt}
 use Rattle.walk.specs.Tests.{lent, pathSound, vehicleSound}
 use Rattle.walk.specs.Rig.{zeroVector, drawnStart, drawStep}
-use Rattle.walk.specs.TestRequires.{SoundStation}
 use Rattle.walk.proofs.PathTests.{path-station}
 use Rattle.points.specs.Requires.{RigAt}
 use Rattle.points.specs.Points.{rigPoints}
