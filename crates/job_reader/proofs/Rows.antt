@@ -1,7 +1,5 @@
 -- The worked record of 01, "Rigs to try": a single unit on a straight. Assumes nothing.
-use Prim.Native.Nat.{ℕ}
 use mathlib.Core.Path.{_≡_, refl}
-use mathlib.Core.List.{List, [], _∷_}
 use lib.ListN.{set}
 use lib.IntN.{pos}
 use Rattle.number.specs.Read.{got, many}
@@ -12,10 +10,8 @@ use Rattle.job.specs.Allowed.{headingAllowed}
 use Rattle.job.specs.Empty.{emptyUnits, emptyElements}
 use Rattle.job.specs.declared.Curve.the-variants.{Straight}
 use Rattle.job.specs.declared.Job.{Job}
+use Rattle.job_reader.specs.Worked.{workedRecord}
 use Rattle.job_reader.specs.Record.{readUnit, readUnits, readWidths, readVehicle, readStart, readElement, readElements, readPath, readRecord, readJob}
-
-abbrev pub worked : List ℕ
-worked = 0x01 ∷ 0xD0 ∷ 0x86 ∷ 0x03 ∷ 0x00 ∷ 0x00 ∷ 0x90 ∷ 0x4E ∷ 0xE0 ∷ 0x5D ∷ 0xE0 ∷ 0x5D ∷ 0x00 ∷ 0x00 ∷ 0x00 ∷ 0x80 ∷ 0x89 ∷ 0x7A ∷ 0x88 ∷ 0x27 ∷ 0x01 ∷ 0xE8 ∷ 0xFB ∷ 0x03 ∷ 0x00 ∷ []
 
 unfoldable pub workedJob : Job
 workedJob = record {
@@ -26,6 +22,6 @@ workedJob = record {
   elements = set emptyElements 0 (record { length = 65000; curve = Straight });
 }
 
-pub worked-read : readJob worked ≡ got workedJob 25
+pub worked-read : readJob workedRecord ≡ got workedJob 25
 unfolding workedJob groups readNumber field signedNumber signedField many hasLength headingAllowed readUnit emptyUnits readUnits readWidths readVehicle readStart readElement emptyElements readElements readPath readRecord readJob
 worked-read = refl

@@ -10,13 +10,15 @@ use borrow.Author.Tests.{le-leb, leb-true}
 use Rattle.number.specs.Read.{Bytes, Read, got, refused}
 use Rattle.number.proofs.CodecMany.{take-sets}
 use Rattle.job.specs.Faults.{orFault, judge}
-use Rattle.job.specs.Empty.{cleared}
+use Rattle.job.specs.Empty.{emptyUnits, emptyElements, cleared}
 use Rattle.job.specs.declared.Job.{Job}
 use Rattle.job.proofs.FaultLaws.{first-none, or-none}
+use Rattle.job_reader.specs.Worked.{workedRecord}
 use Rattle.job_reader.specs.Record.{readJob}
 use Rattle.job_reader.specs.Answers.{jobRead, ReadEnsures}
 use Rattle.job_reader.specs.declared.ReadAnswer.the-variants as A
 use Rattle.job_reader.specs.declared.JobRead.{JobRead}
+use Rattle.job_reader.proofs.Rows.{workedJob, worked-read}
 use Rattle.job_writer.specs.Write.{writeJob}
 use Rattle.job_writer.specs.Answers.{writeFault, wrote, WriteEnsures}
 use Rattle.job_writer.specs.Claims.{OneEncoding, RecordLength}
@@ -26,6 +28,7 @@ use Rattle.job_writer.proofs.LengthLaws.{record-length}
 use Rattle.job_writer.proofs.RecordCodec.{job}
 use Rattle.job_writer.proofs.RoundTrip.{Back, written-read, read-written, cleared-same}
 use Rattle.job_writer.proofs.Reach.{first-bytes}
+use Rattle.job_writer.proofs.Witnesses.{worked-judged, worked-written}
 
 -- an accepted reading is one of the job beside it
 pub accepted : (x : Read Job) (r : JobRead) → r ≡ jobRead x → r .answer ≡ A.Accepted → (e : ℕ) × (x ≡ got (r .job) e)
@@ -56,6 +59,13 @@ read-cleared j u e h =
     let c = cleared-same j u e h in
     ap (λ (x : List ℕ). jobRead (readJob x)) (sym (c .written)) ∙ ap jobRead (written-read (cleared j) (c .judged) (c .once))
 
+worked-empty : workedJob ≡ cleared workedJob
+unfolding workedJob emptyUnits emptyElements
+worked-empty = refl
+
+worked-bytes : Bytes workedRecord
+worked-bytes = subst Bytes worked-written (job .bytes workedJob (worked-judged, worked-empty))
+
 pub one-encoding : OneEncoding
 one-encoding = record {
   written = λ j before w after k h l.
@@ -63,6 +73,7 @@ one-encoding = record {
       written j before w after k h room;
   bytes = λ j u e h. let c = cleared-same j u e h in subst Bytes (c .written) (job .bytes (cleared j) (c .judged, c .once));
   accepted = λ j u e h r k. k .answer ∙ read-cleared j u e h;
+  worked = (record { answer = A.Accepted; job = workedJob }, (record { answer = sym (ap jobRead worked-read); bytes = worked-bytes }, refl));
   write-after-read = λ s r h a before w after k l.
       let b = back s r h a .1 in
       let n : length (writeJob (r .job)) ≤ length before = omega (arith, ap length (b .written)) in

@@ -11,7 +11,8 @@ use Rattle.job.specs.Allowed.{headingAllowed, curveAllowed}
 use Rattle.job.specs.Faults.{faultOf, unitsFault, elementsFault, vehicleFault, judge}
 use Rattle.job.specs.Empty.{emptyUnits, emptyElements, emptyElement}
 use Rattle.job.specs.declared.Curve.the-variants.{Straight}
-use Rattle.job_reader.proofs.Rows.{worked, workedJob}
+use Rattle.job_reader.specs.Worked.{workedRecord}
+use Rattle.job_reader.proofs.Rows.{workedJob}
 use Rattle.job_writer.specs.Write.{writeJob}
 use Rattle.job_writer.specs.Inner.{Copied, Allowed, UnitsFit, VehicleFits, ElementFits, ElementsFit, PathFits, Accepted}
 use Rattle.job_writer.proofs.LengthLaws.{elements-allowed}
@@ -22,7 +23,7 @@ pub worked-judged : judge workedJob ≡ 0
 unfolding workedJob hasLength headingAllowed faultOf unitsFault elementsFault vehicleFault judge emptyUnits emptyElements
 worked-judged = refl
 
-pub worked-written : writeJob workedJob ≡ worked
+pub worked-written : writeJob workedJob ≡ workedRecord
 unfolding workedJob writeMany writeGroups writeNumber writeJob emptyUnits emptyElements
 worked-written = refl
 

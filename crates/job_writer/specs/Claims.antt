@@ -8,6 +8,7 @@ use Rattle.number.specs.Read.{Bytes}
 use Rattle.job.specs.Empty.{cleared}
 use Rattle.job.specs.Faults.{judge}
 use Rattle.job.specs.declared.Job.{Job}
+use Rattle.job_reader.specs.Worked.{workedRecord}
 use Rattle.job_reader.specs.Answers.{ReadEnsures}
 use Rattle.job_reader.specs.declared.ReadAnswer.the-variants as A
 use Rattle.job_reader.specs.declared.JobRead.{JobRead}
@@ -28,6 +29,8 @@ pub record OneEncoding : Type 0 where
   pub bytes : (j : Job) → length (j .vehicle .units) ≡ 4 → length (j .elements) ≡ 64 → judge j ≡ 0 → Bytes (writeJob j)
   pub accepted : (j : Job) → length (j .vehicle .units) ≡ 4 → length (j .elements) ≡ 64 → judge j ≡ 0
       → (r : JobRead) → ReadEnsures (writeJob j) r → r ≡ record { answer = A.Accepted; job = cleared j }
+  -- there are such jobs: that of 01, "Rigs to try"
+  pub worked : (r : JobRead) × (ReadEnsures workedRecord r × (r .answer ≡ A.Accepted))
   -- bytes that read as a job are what the writer makes of it, in any run that has the room
   pub write-after-read : (s : List ℕ) (r : JobRead) → ReadEnsures s r → r .answer ≡ A.Accepted
       → (before : List ℕ) (w : Wrote) (after : List ℕ) → WriteEnsures (r .job) before w after → length s ≤ length before

@@ -3,9 +3,10 @@ use mathlib.Core.Path.{_≡_}
 use native.Mathlib.Omega.{arith}
 use borrow.Author.Tests.{eq-eqb, ne-eqb}
 use Rattle.number.specs.Read.{Bytes}
+use Rattle.job.specs.Empty.{emptyVehicle, emptyStart, emptyJob}
 use Rattle.job_reader.specs.Record.{readVehicle, readStart, readPath, readRecord, readJob}
 use Rattle.job_reader.specs.Answers.{beside}
-use Rattle.job_reader.proofs.PartLaws.{vehicle-of, start-of, path-of}
+use Rattle.job_reader.proofs.PartLaws.{shown}
 use borrow.Author.Needs.{needs}
 use Rattle.job_reader.proofs.read_job.Statement.{statement}
 use Rattle.job_reader.proofs.read_job.Tie as tie
@@ -16,19 +17,19 @@ bytes c i = omega (arith, c .shared-slice-known .given i)
 
 -- the parts that were read
 vehicle : (c : tie.After-read-vehicle) → beside (c .read-vehicle .result .vehicle) (c .read-vehicle .result .answer) ≡ readVehicle (c .before .before .args .s .now) 0
-vehicle c = vehicle-of (c .read-vehicle .ensures)
+vehicle c = rw (c .read-vehicle .ensures) (shown emptyVehicle _)
 
 start : (c : tie.After-read-start) →
     let a = c .before .before in
     beside (c .read-start .result .start) (c .read-start .result .answer) ≡ readStart (a .before .before .before .before .args .s .now) (a .a .given .0 .0 .at)
-start c = start-of (c .read-start .ensures)
+start c = rw (c .read-start .ensures) (shown emptyStart _)
 
 path : (c : tie.After-read-path) →
     let b = c .before .before in
     let t = b .before .before in
     let v = t .before .before .before .before in
     beside (c .read-path .result .job) (c .read-path .result .answer) ≡ readPath (v .read-vehicle .result .vehicle) (t .read-start .result .start) (v .before .before .args .s .now) (b .b .given .0 .0 .at)
-path c = path-of (c .read-path .ensures)
+path c = rw (c .read-path .ensures) (shown emptyJob _)
 
 read-vehicle-requires : tie.Need-read-vehicle-requires
 read-vehicle-requires c κs = search needs

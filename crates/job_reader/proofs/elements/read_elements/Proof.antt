@@ -8,11 +8,12 @@ use mathlib.Core.List.{List}
 use Rattle.number.specs.Read.{Reader, many, into}
 use Rattle.number.proofs.ManyLaws.{into-end, into-more, into-refused}
 use Rattle.job.specs.Steps.{tally}
+use Rattle.job.specs.Empty.{emptyElement}
 use Rattle.job.specs.declared.Element.{Element}
 use Rattle.job_reader.specs.Record.{readElement, readTotal, readElements}
 use Rattle.job_reader.specs.Answers.{beside, elementsRead}
 use Rattle.job_reader.proofs.ReadLaws.{tally-read}
-use Rattle.job_reader.proofs.PartLaws.{element-of}
+use Rattle.job_reader.proofs.PartLaws.{shown}
 use Rattle.job_reader.proofs.elements.read_elements.Statement.{statement}
 use Rattle.job_reader.proofs.elements.read_elements.Tie as tie
 
@@ -38,7 +39,7 @@ done c =
 
 -- the element that was read
 element : (c : tie.After-read-element Inv-loop μ-loop) → beside (c .read-element .result .element) (c .read-element .result .answer) ≡ readElement (c .before .before .before .before .before .args .s .now) (c .before .before .loop .at .at)
-element c = element-of (c .read-element .ensures)
+element c = rw (c .read-element .ensures) (shown emptyElement _)
 
 empty-elements-requires : tie.Need-empty-elements-requires Inv-loop μ-loop
 empty-elements-requires c κs = search needs

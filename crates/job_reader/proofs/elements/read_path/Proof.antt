@@ -3,10 +3,11 @@ use Prim.Native.Nat.{_≤_}
 use native.Mathlib.Omega.{arith}
 use mathlib.Core.Path.{_≡_, _∙_, sym, ap}
 use Rattle.number.specs.Answers.{asNumber}
+use Rattle.job.specs.Empty.{emptyElements}
 use Rattle.job_reader.specs.Record.{readElements, readPath}
 use Rattle.job_reader.specs.Answers.{beside}
 use Rattle.job_reader.proofs.ReadLaws.{field-within}
-use Rattle.job_reader.proofs.PartLaws.{elements-of}
+use Rattle.job_reader.proofs.PartLaws.{shown}
 use borrow.Author.Needs.{needs}
 use Rattle.job_reader.proofs.elements.read_path.Statement.{statement}
 use Rattle.job_reader.proofs.elements.read_path.Tie as tie
@@ -23,7 +24,7 @@ elements : (c : tie.After-read-elements) →
     let b = c .before .before in
     let a = b .before .before .before .before in
     beside (c .read-elements .result .elements) (c .read-elements .result .answer) ≡ readElements (a .a .given .0 .0) (a .a .given .0 .1 .0 .at) (b .b .given .0 .0) (a .before .before .before .before .args .s .now) (b .b .given .0 .1 .0 .at)
-elements c = elements-of (c .read-elements .ensures)
+elements c = rw (c .read-elements .ensures) (shown emptyElements _)
 
 read-within-requires : tie.Need-read-within-requires
 read-within-requires c κs = search needs

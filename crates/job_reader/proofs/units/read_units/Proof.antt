@@ -7,10 +7,11 @@ use mathlib.Core.Path.{_≡_, _∙_, sym, ap}
 use mathlib.Core.List.{List, []}
 use Rattle.number.specs.Read.{Reader, return, many, into}
 use Rattle.number.proofs.ManyLaws.{into-end, into-more, into-refused}
+use Rattle.job.specs.Empty.{emptyUnit}
 use Rattle.job.specs.declared.Unit.{Unit as VehicleUnit}
 use Rattle.job_reader.specs.Record.{readUnitAt, readUnits}
 use Rattle.job_reader.specs.Answers.{beside, unitsRead}
-use Rattle.job_reader.proofs.PartLaws.{unit-of}
+use Rattle.job_reader.proofs.PartLaws.{shown}
 use Rattle.job_reader.proofs.units.read_units.Statement.{statement}
 use Rattle.job_reader.proofs.units.read_units.Tie as tie
 
@@ -35,7 +36,7 @@ unit : (c : tie.After-read-unit Inv-loop μ-loop) →
     let l = c .before .before .loop in
     let a = c .before .before .before .before .before .args in
     beside (c .read-unit .result .unit) (c .read-unit .result .answer) ≡ readUnitAt (a .count) (l .i) (a .s .now) (l .at .at)
-unit c = unit-of (c .read-unit .ensures)
+unit c = rw (c .read-unit .ensures) (shown emptyUnit _)
 
 empty-units-requires : tie.Need-empty-units-requires Inv-loop μ-loop
 empty-units-requires c κs = search needs

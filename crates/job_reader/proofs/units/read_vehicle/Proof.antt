@@ -2,10 +2,11 @@
 use Prim.Native.Nat.{_≤_}
 use mathlib.Core.Path.{_≡_, _∙_, sym, ap}
 use Rattle.number.specs.Answers.{asNumber}
+use Rattle.job.specs.Empty.{emptyUnits}
 use Rattle.job_reader.specs.Record.{readUnits, readVehicle}
 use Rattle.job_reader.specs.Answers.{beside}
 use Rattle.job_reader.proofs.ReadLaws.{field-within}
-use Rattle.job_reader.proofs.PartLaws.{units-of}
+use Rattle.job_reader.proofs.PartLaws.{shown}
 use borrow.Author.Needs.{needs}
 use Rattle.job_reader.proofs.units.read_vehicle.Statement.{statement}
 use Rattle.job_reader.proofs.units.read_vehicle.Tie as tie
@@ -18,7 +19,7 @@ count c = field-within 3 (record { least = 1; most = 4 }) _ _ _ _ (sym (ap asNum
 units : (c : tie.After-read-units) →
     let a = c .before .before in
     beside (c .read-units .result .units) (c .read-units .result .answer) ≡ readUnits (a .a .given .0 .0) (a .before .before .before .before .args .s .now) (a .a .given .0 .1 .0 .at)
-units c = units-of (c .read-units .ensures)
+units c = rw (c .read-units .ensures) (shown emptyUnits _)
 
 read-within-requires : tie.Need-read-within-requires
 read-within-requires c κs = search needs
