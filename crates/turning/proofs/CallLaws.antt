@@ -1,5 +1,5 @@
 -- From an answer told to what a call ensures: the number can be taken apart again, on the caller's runs and on the library's own.
-use Prim.Native.Nat.{ℕ, _+_, _*_, _/_, _%_, _≤_, _<_}
+use Prim.Native.Nat.{ℕ, _≤_, _<_}
 use mathlib.Core.Path.{_≡_, refl, sym, subst}
 use mathlib.Core.List.{List}
 use mathlib.Core.Logic.{_⊎_, inl, inr}
@@ -13,18 +13,18 @@ use Rattle.reaches.specs.Cells.{Reaches}
 use Rattle.swept.specs.declared.Swept.{Swept}
 use Rattle.swept.specs.declared.Swept.the-variants as S
 use Rattle.swept.specs.Swept.{sweptOf, sweptInto}
-use Rattle.swept.specs.Ranges.{StoppedSo, SweptEnsures, IntoSo, IntoEnsures}
+use Rattle.swept.specs.Ranges.{SweptEnsures, IntoSo, IntoEnsures}
 use Rattle.swept.proofs.SweptLaws.{answered-into}
 use Rattle.turning.specs.Answers.{TellEnsures, Answered, atByte, atUnit, sweepTold}
-use Rattle.turning.specs.Calls.{numberIn, ByteTold, UnitTold, TakenApart, SweepCalled, RunCalled}
+use Rattle.turning.specs.Calls.{numberIn, byteIn, unitIn, stepIn, TakenApart, SweepCalled, RunCalled}
 use Rattle.turning.specs.Inner.{SweptFits}
 use Rattle.turning.proofs.AnswerLaws.{too-short, answered}
 
 -- a number below 256, with a byte, or with a unit below 256 and a step
-byte-apart : (n p : ℕ) → n < 256 → (numberIn (atByte n p) ≡ n) × (atByte n p / 256 ≡ p)
+byte-apart : (n p : ℕ) → n < 256 → (numberIn (atByte n p) ≡ n) × (byteIn (atByte n p) ≡ p)
 byte-apart n p h = (omega arith, omega arith)
 
-unit-apart : (n u k : ℕ) → n < 256 → u < 256 → (numberIn (atUnit n u k) ≡ n) × ((atUnit n u k / 256) % 256 ≡ u) × (atUnit n u k / 65536 ≡ k)
+unit-apart : (n u k : ℕ) → n < 256 → u < 256 → (numberIn (atUnit n u k) ≡ n) × (unitIn (atUnit n u k) ≡ u) × (stepIn (atUnit n u k) ≡ k)
 unit-apart n u k h g = (omega arith, omega arith, omega arith)
 
 module _ (s : List ℕ) where
