@@ -2,10 +2,7 @@
 // answers and every entry of the lent runs is held to the line.
 // A line is the kind of the call, what is handed over, ` = ` and what is answered, a run being its length and then its entries. The answer begins
 // with the refusal's number or 0; beside a refusal what is answered by value stands as zeros, and a record or a run as it was handed in.
-mod answers;
 mod others;
-mod runs;
-mod walks;
 
 use libc::STDOUT_FILENO;
 use trial_tools::reading::Cursor;
@@ -28,8 +25,8 @@ pub struct Outcome {
 
 fn make_call(line: &[u8], kind: usize, c: Cursor) -> Cursor {
     match kind {
-        1 => walks::place(line, c),
-        2 => walks::step(line, c),
+        1 => trial_calls::walks::place(line, c),
+        2 => trial_calls::walks::step(line, c),
         3 => others::widest(line, c),
         4 => others::write(line, c),
         5 => others::lay(line, c),

@@ -27,13 +27,13 @@ fn expect_place(line: &[u8], c: Cursor, number: u8, p: Place) -> Cursor {
 }
 
 pub fn widest(line: &[u8], c: Cursor) -> Cursor {
-    let mut left = crate::runs::empty_run();
-    let mut right = crate::runs::empty_run();
-    let mut marks = crate::runs::empty_bytes();
+    let mut left = trial_calls::runs::empty_run();
+    let mut right = trial_calls::runs::empty_run();
+    let mut marks = trial_calls::runs::empty_bytes();
     let asked = trial_tools::reading::read_size(line, c);
-    let l = crate::runs::read_run(line, asked.next, &mut left);
-    let r = crate::runs::read_run(line, l.next, &mut right);
-    let m = crate::runs::read_bytes(line, r.next, &mut marks);
+    let l = trial_calls::runs::read_run(line, asked.next, &mut left);
+    let r = trial_calls::runs::read_run(line, l.next, &mut right);
+    let m = trial_calls::runs::read_bytes(line, r.next, &mut marks);
     let i = l.count;
     let j = r.count;
     let k = m.count;
@@ -61,13 +61,13 @@ fn expect_wrote(line: &[u8], c: Cursor, w: Wrote) -> Cursor {
 fn written(line: &[u8], c: Cursor, j: Job, run: &mut [u8]) -> Cursor {
     let wrote = job_writer::write_job(j, run);
     let told = expect_wrote(line, c, wrote);
-    crate::runs::expect_bytes(line, told, run)
+    trial_calls::runs::expect_bytes(line, told, run)
 }
 
 pub fn write(line: &[u8], c: Cursor) -> Cursor {
-    let mut bytes = crate::runs::empty_bytes();
+    let mut bytes = trial_calls::runs::empty_bytes();
     let j = trial_tools::arguments::read_job(line, c);
-    let run = crate::runs::read_bytes(line, j.next, &mut bytes);
+    let run = trial_calls::runs::read_bytes(line, j.next, &mut bytes);
     let n = run.count;
     let told = trial_tools::reading::equals_sign(line, run.next);
     written(line, told, j.job, &mut bytes[..n])
@@ -91,22 +91,22 @@ fn laid(
 ) -> Cursor {
     let answer = path::lay(j, xs, ys, gxs, gys);
     let told = expect_laid(line, c, answer);
-    let x = crate::runs::expect_run(line, told, xs);
-    let y = crate::runs::expect_run(line, x, ys);
-    let gx = crate::runs::expect_run(line, y, gxs);
-    crate::runs::expect_run(line, gx, gys)
+    let x = trial_calls::runs::expect_run(line, told, xs);
+    let y = trial_calls::runs::expect_run(line, x, ys);
+    let gx = trial_calls::runs::expect_run(line, y, gxs);
+    trial_calls::runs::expect_run(line, gx, gys)
 }
 
 pub fn lay(line: &[u8], c: Cursor) -> Cursor {
-    let mut xs = crate::runs::empty_run();
-    let mut ys = crate::runs::empty_run();
-    let mut gxs = crate::runs::empty_run();
-    let mut gys = crate::runs::empty_run();
+    let mut xs = trial_calls::runs::empty_run();
+    let mut ys = trial_calls::runs::empty_run();
+    let mut gxs = trial_calls::runs::empty_run();
+    let mut gys = trial_calls::runs::empty_run();
     let read = trial_tools::arguments::read_job(line, c);
-    let x = crate::runs::read_run(line, read.next, &mut xs);
-    let y = crate::runs::read_run(line, x.next, &mut ys);
-    let gx = crate::runs::read_run(line, y.next, &mut gxs);
-    let gy = crate::runs::read_run(line, gx.next, &mut gys);
+    let x = trial_calls::runs::read_run(line, read.next, &mut xs);
+    let y = trial_calls::runs::read_run(line, x.next, &mut ys);
+    let gx = trial_calls::runs::read_run(line, y.next, &mut gxs);
+    let gy = trial_calls::runs::read_run(line, gx.next, &mut gys);
     let i = x.count;
     let j = y.count;
     let k = gx.count;
@@ -129,8 +129,8 @@ fn nowhere() -> Vec2 {
 
 fn expect_turn(line: &[u8], c: Cursor, number: u8, turned: Vec2, shift: Vec2) -> Cursor {
     let answer = trial_tools::reading::expect_size(line, c, number as usize);
-    let heading = crate::answers::expect_vector(line, answer, turned);
-    crate::answers::expect_vector(line, heading, shift)
+    let heading = trial_calls::answers::expect_vector(line, answer, turned);
+    trial_calls::answers::expect_vector(line, heading, shift)
 }
 
 pub fn path_turn(line: &[u8], c: Cursor) -> Cursor {
@@ -147,7 +147,7 @@ pub fn path_turn(line: &[u8], c: Cursor) -> Cursor {
 
 fn expect_unit_turn(line: &[u8], c: Cursor, number: u8, d: Vec2) -> Cursor {
     let answer = trial_tools::reading::expect_size(line, c, number as usize);
-    crate::answers::expect_vector(line, answer, d)
+    trial_calls::answers::expect_vector(line, answer, d)
 }
 
 pub fn unit_turn(line: &[u8], c: Cursor) -> Cursor {

@@ -1,5 +1,5 @@
 -- `call_trials::empty_text` meets its contract.
-use Rattle.call_trials.proofs.RunLaws.{zeros-length}
+use Rattle.trial_calls.proofs.RunLaws.{zeros-length}
 use Rattle.call_trials.proofs.empty_text.Statement.{statement}
 use Rattle.call_trials.proofs.empty_text.Tie as tie
 

@@ -4,7 +4,7 @@ use mathlib.Core.Path.{_≡_, sym}
 use mathlib.Core.List.{List}
 use lib.ListN.{length, replicate, length-replicate}
 use lib.Seq.{length-take-le}
-use Rattle.call_trials.specs.Counted.{Counted}
+use Rattle.trial_calls.specs.Counted.{Counted}
 
 pub counted : {A : Type 0} (n : ℕ) (xs : List A) → n ≤ length xs → Counted n xs
 counted n xs h = (h, sym (length-take-le n xs h))

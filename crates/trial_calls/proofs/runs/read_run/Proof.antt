@@ -1,12 +1,13 @@
--- `call_trials::runs::read_bytes` meets its contract.
+-- `trial_calls::runs::read_run` meets its contract.
+use lib.ListN.{length-set}
 use mathlib.Core.Path.{_≡_}
-use Rattle.call_trials.proofs.RunLaws.{counted}
+use Rattle.trial_calls.proofs.RunLaws.{counted}
 use borrow.Author.Needs.{needs}
 use native.Mathlib.Omega.{arith}
 use Prim.Native.Nat.{_-_, _≤_}
 use lib.ListN.{length}
-use Rattle.call_trials.proofs.runs.read_bytes.Statement.{statement}
-use Rattle.call_trials.proofs.runs.read_bytes.Tie as tie
+use Rattle.trial_calls.proofs.runs.read_run.Statement.{statement}
+use Rattle.trial_calls.proofs.runs.read_run.Tie as tie
 
 abbrev Inv-loop : tie.InvT-loop
 Inv-loop line run₀ count at₀ i₀ run at i = (i ≤ count) × (count ≤ length run) × (length run ≡ length run₀)
@@ -26,17 +27,14 @@ returns c = search needs
 loop-holds : tie.Need-loop-holds Inv-loop μ-loop
 loop-holds c = search needs
 
-read-size-requires-2 : tie.Need-read-size-requires-2 Inv-loop μ-loop
-read-size-requires-2 c κs = search needs
+read-signed-requires : tie.Need-read-signed-requires Inv-loop μ-loop
+read-signed-requires c κs = search needs
 
-cast-run : tie.Need-cast-run Inv-loop μ-loop
-cast-run c = search needs
+mul-value : tie.Need-mul-value Inv-loop μ-loop
+mul-value c = search needs
 
-slice-write-run : tie.Need-slice-write-run Inv-loop μ-loop
-slice-write-run c = search needs
-
-tested-requires-2 : tie.Need-tested-requires-2 Inv-loop μ-loop
-tested-requires-2 c κs = search needs
+slice-set-from-value : tie.Need-slice-set-from-value Inv-loop μ-loop
+slice-set-from-value c = search needs
 
 add-i : tie.Need-add-i Inv-loop μ-loop
 add-i c = search needs
@@ -45,7 +43,7 @@ loop-less : tie.Need-loop-less Inv-loop μ-loop
 loop-less c = search needs
 
 loop-again : tie.Need-loop-again Inv-loop μ-loop
-loop-again c = search needs
+loop-again c = let v = c .before .before .before .before .loop .inv in (search needs, simp length-set (v .1), simp length-set (v .2))
 
 same-length : tie.Need-same-length Inv-loop μ-loop
 same-length c = search needs
@@ -53,8 +51,8 @@ same-length c = search needs
 returns-2 : tie.Need-returns-2 Inv-loop μ-loop
 returns-2 c = counted _ _ (omega arith)
 
-pub read-bytes-spec : {M : Type 1} → statement M
-read-bytes-spec =
+pub read-run-spec : {M : Type 1} → statement M
+read-run-spec =
     tie.close
     (tie.spec
     Inv-loop
@@ -63,10 +61,9 @@ read-bytes-spec =
     tested-requires
     returns
     loop-holds
-    read-size-requires-2
-    cast-run
-    slice-write-run
-    tested-requires-2
+    read-signed-requires
+    mul-value
+    slice-set-from-value
     add-i
     loop-less
     loop-again

@@ -2,7 +2,7 @@
 use trial_tools::reading::Cursor;
 ghost use mathlib.Core.Path.{_≡_};
 ghost use lib.ListN.{length};
-ghost use Rattle.call_trials.specs.Counted.{Counted};
+ghost use Rattle.trial_calls.specs.Counted.{Counted};
 
 // How many entries stand at the start of an array.
 pub struct Run {

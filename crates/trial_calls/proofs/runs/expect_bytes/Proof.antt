@@ -1,9 +1,9 @@
--- `call_trials::runs::expect_bytes` is safe and ends.
+-- `trial_calls::runs::expect_bytes` is safe and ends.
 use borrow.Author.Needs.{needs}
 use Prim.Native.Nat.{_-_, _≤_}
 use lib.ListN.{length}
-use Rattle.call_trials.proofs.runs.expect_bytes.Statement.{statement}
-use Rattle.call_trials.proofs.runs.expect_bytes.Tie as tie
+use Rattle.trial_calls.proofs.runs.expect_bytes.Statement.{statement}
+use Rattle.trial_calls.proofs.runs.expect_bytes.Tie as tie
 
 abbrev Inv-loop : tie.InvT-loop
 Inv-loop line run at₀ i₀ at i = i ≤ length run
