@@ -13,6 +13,7 @@ ghost use Rattle.answer_text.specs.Printed.{stepsLine, placeLine, widest
 ghost use Rattle.answer_text.specs.Appending.{nothing, Line};
 ghost use Rattle.answer_text.specs.Answers.{TextEnsures};
 ghost use Rattle.answer_text.specs.Inner.{Space};
+ghost use Rattle.answer_text.specs.Forms.{PrintedForms};
 
 // The lines stand at the start of the array; zeros stand after them.
 pub struct Text {
@@ -144,3 +145,8 @@ pub fn text_of(s: Swept) -> Text
         Swept::Refused(number, byte) => refused_text(number, byte),
     }
 }
+
+// Claim: the printed forms of document 01, word for word.
+pub fn printed_forms()
+    ensures { λ _. ⌜ PrintedForms ⌝ }
+{}

@@ -6,6 +6,7 @@ ghost use lib.Seq.{sets};
 ghost use lib.IntN.{natAbs};
 ghost use Rattle.text.specs.Decimal.{digits, decimal, signedDecimal};
 ghost use Rattle.text.specs.Inner.{Room};
+ghost use Rattle.text.specs.Texts.{WorkedTexts};
 
 // Writes bytes at a position of the run, and answers the position after them.
 pub fn put_bytes(run: &mut [u8], at: usize, bytes: &[u8]) -> usize
@@ -77,3 +78,8 @@ pub fn put_signed(run: &mut [u8], at: usize, z: i64) -> usize
         put_decimal(run, at, size)
     }
 }
+
+// Claim: texts that pin the digits' order, the sign and the characters' codes.
+pub fn worked_texts()
+    ensures { λ _. ⌜ WorkedTexts ⌝ }
+{}
