@@ -40,6 +40,8 @@ convention-rows = record {
       and (refl, refl) and (refl, refl) and (refl, refl) and (refl, refl)
       -- a hitch on the last unit
       and refl and refl and refl and refl and refl
+      -- an arc's radius
+      and refl and refl and refl
       -- over 2,000 steps
       and refl and refl and refl
       -- placed along the heading

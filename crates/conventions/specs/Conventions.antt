@@ -27,7 +27,7 @@ use Rattle.reaches.specs.Crossing.{reachOf, crosses, crossed}
 use Rattle.stations.specs.Placing.{callOf, placeRefusal, startHeading}
 use Rattle.stations.specs.Stepping.{pointsAt, ifMade}
 use Rattle.worked.specs.Rows.{AllHold, neg, vec}
-use Rattle.conventions.specs.Rigs.{unit, vehicle, vehicleOf, single, hitchedLast, vectors, rig, singleAt, station, north, call, callMarks, straight, rightBend, job, threeStations, tooFarNorth, standing, threeUnits, thirdSquare, secondSquare, slanted, trailerBehind, aside, shortTurnedBack, shortThird, unusedVector}
+use Rattle.conventions.specs.Rigs.{unit, vehicle, vehicleOf, single, hitchedLast, vectors, rig, singleAt, station, north, call, callMarks, straight, rightBend, leftBend, job, threeStations, tooFarNorth, standing, threeUnits, thirdSquare, secondSquare, slanted, trailerBehind, aside, shortTurnedBack, shortThird, unusedVector}
 
 -- a question, and last the answer
 pub data Row : Type 0 where
@@ -95,6 +95,10 @@ conventionRows =
     ∷ jobRefused (0x02 ∷ 0x88 ∷ 0x27 ∷ 0x8F ∷ 0x4E ∷ 0x00 ∷ 0xF0 ∷ 0x2E ∷ 0x02 ∷ 0x00 ∷ 0xE8 ∷ 0x07 ∷ 0xD0 ∷ 0x0F ∷ 0xDC ∷ 0x0B ∷ 0x00 ∷ 0x00 ∷ 0x00 ∷ 0x80 ∷ 0x89 ∷ 0x7A ∷ 0x64 ∷ 0x01 ∷ 0xC0 ∷ 0x9A ∷ 0x0C ∷ 0x00 ∷ []) 4 8
     ∷ placementRefused hitchedLast (call 3 threeStations) 27
     ∷ refusedStep (rig hitchedLast 1 (vec (pos 0) (pos 5000) ∷ [])) (call 3 threeStations) (refused 27)
+    -- the radius "0, or size 20,000 to 1,000,000", and "Radius 0 is a straight": by value an arc of radius 0 is none, to either side
+    ∷ jobJudged (job single (rightBend 1000 0 ∷ [])) 8
+    ∷ jobJudged (job single (leftBend 1000 0 ∷ [])) 8
+    ∷ jobJudged (job single (leftBend 1000 20000 ∷ [])) 0
     -- 9: "over 2,000 steps; tested after all elements, placed at their number": 1,001 and 1,000 steps, their number at byte 18; 1,000 and 1,000 pass
     ∷ jobJudged (job single (straight 100000 ∷ rightBend 99901 20000 ∷ [])) 0
     ∷ jobJudged (job single (straight 100001 ∷ rightBend 99901 20000 ∷ [])) 9
@@ -163,5 +167,5 @@ conventionRows =
 
 -- the claim
 pub record Conventions : Type 0 where
-  pub count : length conventionRows ≡ 56
+  pub count : length conventionRows ≡ 59
   pub hold : AllHold Holds conventionRows

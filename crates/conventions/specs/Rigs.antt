@@ -9,7 +9,7 @@ use Rattle.job.specs.declared.Unit.{Unit as VehicleUnit}
 use Rattle.job.specs.declared.Vehicle.{Vehicle}
 use Rattle.job.specs.declared.Element.{Element}
 use Rattle.job.specs.declared.Curve.the-variants.{Straight, Arc}
-use Rattle.job.specs.declared.Side.the-variants.{Right}
+use Rattle.job.specs.declared.Side.the-variants.{Left, Right}
 use Rattle.job.specs.declared.Job.{Job}
 use Rattle.job.specs.Empty.{emptyUnits}
 use Rattle.path.specs.declared.Station.{Station}
@@ -73,6 +73,9 @@ straight n = record { length = n; curve = Straight }
 
 abbrev pub rightBend : ℕ → ℕ → Element
 rightBend n r = record { length = n; curve = Arc Right r }
+
+abbrev pub leftBend : ℕ → ℕ → Element
+leftBend n r = record { length = n; curve = Arc Left r }
 
 -- a job from the origin due north, in steps of 100
 abbrev pub job : Vehicle → List Element → Job
