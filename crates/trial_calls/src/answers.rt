@@ -28,7 +28,7 @@ pub fn expect_vector(line: &[u8], c: Cursor, v: Vec2) -> Cursor {
     trial_tools::reading::expect_wide(line, x, v.y)
 }
 
-pub fn expect_walk(line: &[u8], c: Cursor, w: Walk) -> Cursor {
+pub(crate) fn expect_walk(line: &[u8], c: Cursor, w: Walk) -> Cursor {
     let d = w.d;
     let vehicle = expect_vehicle(line, c, w.vehicle);
     let station = trial_tools::reading::expect_size(line, vehicle, w.station);

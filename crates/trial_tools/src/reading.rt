@@ -108,7 +108,7 @@ fn has_minus(line: &[u8], at: usize) -> bool {
     false
 }
 
-pub fn read_number(line: &[u8], c: Cursor) -> Number {
+fn read_number(line: &[u8], c: Cursor) -> Number {
     let at = c.at;
     let negative = has_minus(line, at);
     let mut from = at;
@@ -164,7 +164,7 @@ pub fn read_natural(line: &[u8], c: Cursor) -> Natural {
 }
 
 // A negative number is counted down from -1, so that the least one can be had.
-pub fn read_wide(line: &[u8], c: Cursor) -> Wide {
+pub(crate) fn read_wide(line: &[u8], c: Cursor) -> Wide {
     let n = read_number(line, c);
     let size = n.size;
     let next = n.next;
