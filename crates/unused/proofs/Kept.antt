@@ -23,6 +23,7 @@ use Rattle.unused.specs.Same.{SameVehicle, SameJob, SameRig}
 use Rattle.unused.specs.Unused.{SameCall, SameRun, Unused}
 use Rattle.unused.proofs.SameJobs.{vehicle-fault, emptied, fault, bytes, laid-stations, laid-answer, laid-runs}
 use Rattle.unused.proofs.SameWalks.{vehicle-sound, started, points-same, stepped, AlikeCourse, walked}
+use Rattle.unused.proofs.Examples.{some-jobs, some-steps}
 
 place-refusal : (v u : Vehicle) → SameVehicle v u → (c : Call) → placeRefusal v c ≡ placeRefusal u c
 unfolding placeRefusal
@@ -106,4 +107,6 @@ unused = record {
   placed = placing;
   stepped = stepping;
   ran = running;
+  someJobs = some-jobs;
+  someSteps = some-steps;
 }

@@ -1,3 +1,4 @@
 pub mod SameJobs
 pub mod SameWalks
+pub mod Examples
 pub mod Kept

@@ -24,6 +24,7 @@ use Rattle.stations.specs.Stepping.{StepEnsures}
 use Rattle.run.specs.declared.Ran.{Ran}
 use Rattle.run.specs.Run.{RunEnsures}
 use Rattle.unused.specs.Same.{SameVehicle, SameJob, SameRig}
+use Rattle.unused.specs.Witnesses.{SomeJobs, SomeSteps}
 
 -- two calls: the same answer, records that agree but for unused units, and the same runs
 pub record SameCall {A : Type 0} (a b : A) (w x : Walk) (after other : Reaches) : Type 0 where
@@ -61,3 +62,6 @@ pub record Unused : Type 0 where
   -- run on the same seven runs
   pub ran : (j k : Job) → SameJob j k → (p : PathRuns) (r : Reaches) (a b : Ran) (p' q' : PathRuns) (r' s' : Reaches)
       → RunEnsures j p r a p' r' → RunEnsures k p r b q' s' → SameRun a b p' q' r' s'
+  -- there are two such jobs that differ, and two such records of their vehicles, with calls that are made and calls that are refused
+  pub someJobs : SomeJobs
+  pub someSteps : SomeSteps (someJobs .one .vehicle) (someJobs .other .vehicle)
