@@ -3,8 +3,8 @@ use mathlib.Core.Path.{refl}
 use Rattle.text.specs.Ascii.{ascii}
 use Rattle.text.specs.Decimal.{front, decimal, signedDecimal}
 use Rattle.answer_text.specs.Printed.{printed}
-use Rattle.answer_text.specs.Forms.{worked, unmarked, PrintedForms}
+use Rattle.answer_text.specs.Forms.{unmarked, PrintedForms}
 
 pub printed-forms : PrintedForms
-unfolding worked unmarked ascii front decimal signedDecimal printed
+unfolding unmarked ascii front decimal signedDecimal printed
 printed-forms = record { finished = refl; withoutWidest = refl; refusedJob = refl; refusedStep = refl }

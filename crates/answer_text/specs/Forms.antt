@@ -4,16 +4,9 @@ use lib.IntN.{pos, negsuc}
 use Rattle.text.specs.Ascii.{ascii}
 use Rattle.reaches.specs.declared.Best.the-variants as B
 use Rattle.run.specs.declared.Finish.{Finish}
+use Rattle.run.specs.Worked.{workedFinish}
 use Rattle.swept.specs.declared.Swept.the-variants as S
 use Rattle.answer_text.specs.Printed.{printed}
-
--- what the worked job comes to
-unfoldable pub worked : Finish
-worked = record {
-  steps = 13;
-  widest = B.Found (record { station = 3; width = pos 24000; left = negsuc 11999; right = pos 12000 });
-  front = record { x = pos 0; y = pos 65000 };
-}
 
 -- a walk without a complete station
 unfoldable pub unmarked : Finish
@@ -22,7 +15,7 @@ unmarked = record { steps = 1; widest = B.Nothing; front = record { x = negsuc 0
 -- the claim
 pub record PrintedForms : Type 0 where
   -- the three lines that the worked job prints
-  pub finished : printed (S.Finished worked) ≡ ascii "steps 13\nwidest 3 24000 -12000 12000\nfront 0 65000\n"
+  pub finished : printed (S.Finished workedFinish) ≡ ascii "steps 13\nwidest 3 24000 -12000 12000\nfront 0 65000\n"
   -- "Without a complete station line two is `widest none`"
   pub withoutWidest : printed (S.Finished unmarked) ≡ ascii "steps 1\nwidest none\nfront -1 0\n"
   -- "A refused job prints only `refused 8 at 20`"

@@ -25,7 +25,7 @@ use Rattle.run.specs.declared.Ran.the-variants as R
 use Rattle.run.specs.Walking.{walkOn}
 use Rattle.run.specs.Run.{runRefusal, jobPath, jobCourse}
 use Rattle.claim.specs.WholeRun.{Run, Ensured}
-use Rattle.claim.specs.WorkedJob.{workedJob, workedFinish}
+use Rattle.run.specs.Worked.{workedJob, workedFinish}
 
 -- runs of zeros, one entry a station
 abbrev zeros : List ℤ

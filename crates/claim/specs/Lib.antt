@@ -2,7 +2,6 @@ pub mod DemandThree
 pub mod StationHistory
 pub mod WidestHistory
 pub mod WholeRun
-pub mod WorkedJob
 pub mod NeverWritten
 pub mod LaidPasses
 pub mod PremisesMet

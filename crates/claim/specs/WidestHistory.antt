@@ -21,7 +21,7 @@ use Rattle.run.specs.declared.Ran.the-variants as R
 use Rattle.claim.specs.DemandThree.{drawnAnswers}
 use Rattle.claim.specs.StationHistory.{Moves, madeMoves, leftOf, rightOf, AllCrossed, History, Lawful, movesOf, runsOf}
 use Rattle.claim.specs.WholeRun.{Run, Ensured}
-use Rattle.claim.specs.WorkedJob.{workedJob, workedFinish}
+use Rattle.run.specs.Worked.{workedJob, workedFinish}
 
 abbrev pub widthOf : Station → List Moves → ℤ
 widthOf s ms = rightOf s ms -ℤ leftOf s ms

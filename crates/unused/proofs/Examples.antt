@@ -10,13 +10,13 @@ use Rattle.number.specs.Read.{writeMany}
 use Rattle.number.specs.Number.{writeGroups, writeNumber}
 use Rattle.plane.specs.Length.{hasLength}
 use Rattle.job.specs.declared.Side.the-variants.{Left}
-use Rattle.job.specs.declared.Curve.the-variants.{Straight, Arc}
+use Rattle.job.specs.declared.Curve.the-variants.{Arc}
 use Rattle.job.specs.declared.Element.{Element}
 use Rattle.job.specs.declared.Unit.{Unit as VehicleUnit}
 use Rattle.job.specs.declared.Vehicle.{Vehicle}
 use Rattle.job.specs.declared.Job.{Job}
 use Rattle.job.specs.Allowed.{headingAllowed}
-use Rattle.job.specs.Empty.{emptyUnit, emptyElement, emptyElements}
+use Rattle.job.specs.Empty.{emptyUnit, emptyElement, emptyUnits, emptyElements}
 use Rattle.job.specs.Faults.{faultOf, unitsFault, elementsFault, vehicleFault, judge}
 use Rattle.job_writer.specs.Write.{writeJob}
 use Rattle.path.specs.Cuts.{fullSteps, cutsFrom}
@@ -41,21 +41,18 @@ use Rattle.stations.specs.Stepping.{StepEnsures}
 use Rattle.stations.proofs.PlaceLaws.{place-done}
 use Rattle.run.specs.Walking.{walkOn}
 use Rattle.run.specs.Run.{runRefusal, jobPath, jobCourse}
+use Rattle.run.specs.Worked.{workedJob}
 use Rattle.unused.specs.Same.{SameJob}
 use Rattle.unused.specs.Witnesses.{RunsAsWorked, SomeJobs, StepsOfBoth, SomeSteps}
 
 -- the worked job with this unit and this element in its last places, which are not in use
 abbrev vehicleWith : VehicleUnit → Vehicle
-vehicleWith u = record { count = 1; units = record { wheelbase = 50000; hitch = pos 0; fold = pos 0 } ∷ emptyUnit ∷ emptyUnit ∷ u ∷ []; overhang = 10000; «front_half_width» = 12000; «rear_half_width» = 12000 }
+vehicleWith u =
+    let v = workedJob .vehicle in
+    record { count = v .count; units = set (v .units) 3 u; overhang = v .overhang; «front_half_width» = v .«front_half_width»; «rear_half_width» = v .«rear_half_width» }
 
 abbrev jobWith : VehicleUnit → Element → Job
-jobWith u e = record {
-  vehicle = vehicleWith u;
-  start = record { x = pos 0; y = pos 0; gx = pos 0; gy = pos 1000000 };
-  step = 5000;
-  count = 1;
-  elements = set (set emptyElements 0 (record { length = 65000; curve = Straight })) 63 e;
-}
+jobWith u e = record { vehicle = vehicleWith u; start = workedJob .start; step = workedJob .step; count = workedJob .count; elements = set (workedJob .elements) 63 e }
 
 -- runs of zeros, one entry a station
 abbrev zeros : List ℤ
@@ -68,7 +65,7 @@ abbrev reachRoom : Reaches
 reachRoom = reachRuns zeros zeros (replicate 14 0)
 
 runs-as-worked : (u : VehicleUnit) (e : Element) → RunsAsWorked (jobWith u e) pathRoom reachRoom
-unfolding nearestSize nearestZ hasLength headingAllowed emptyElements faultOf unitsFault elementsFault vehicleFault judge fullSteps cutsFrom stepsOn stationsFrom stations placedBy turnedBy tooFar lent stationSound pathSound vehicleSound vectorSound vectorsSound recordSound atLast turnUnits startVectors drawStep rearEnd pointAt rigPoints atStations reachOf crosses crossedBy crossedFrom widestAmong walkOn runRefusal writeMany writeGroups writeNumber writeJob
+unfolding nearestSize nearestZ hasLength headingAllowed emptyUnits emptyElements faultOf unitsFault elementsFault vehicleFault judge fullSteps cutsFrom stepsOn stationsFrom stations placedBy turnedBy tooFar lent stationSound pathSound vehicleSound vectorSound vectorsSound recordSound atLast turnUnits startVectors drawStep rearEnd pointAt rigPoints atStations reachOf crosses crossedBy crossedFrom widestAmong walkOn runRefusal writeMany writeGroups writeNumber writeJob
 runs-as-worked u e = record {
   noFault = refl;
   written = record { answer = refl; written = refl; units = refl; elements = refl };
@@ -86,14 +83,15 @@ abbrev wrongElement : Element
 wrongElement = record { length = 1; curve = Arc Left 1 }
 
 jobs-same : SameJob (jobWith emptyUnit emptyElement) (jobWith wrongUnit wrongElement)
-unfolding emptyElements
+unfolding emptyUnits emptyElements
 jobs-same = record { vehicle = record { count = refl; units = refl; overhang = refl; frontHalfWidth = refl; rearHalfWidth = refl }; start = refl; step = refl; count = refl; elements = refl }
 
 units-differ : vehicleWith emptyUnit .units ≡ vehicleWith wrongUnit .units → ⊥
+unfolding emptyUnits
 units-differ p = let z : _≡_ {A = ℕ} 0 1 = ap (λ (us : List VehicleUnit). getD us 3 emptyUnit .wheelbase) p in omega arith
 
 elements-differ : jobWith emptyUnit emptyElement .elements ≡ jobWith wrongUnit wrongElement .elements → ⊥
-unfolding emptyElements
+unfolding emptyUnits emptyElements
 elements-differ p = let z : _≡_ {A = ℕ} 0 1 = ap (λ (es : List Element). getD es 63 emptyElement .length) p in omega arith
 
 pub some-jobs : SomeJobs
@@ -132,19 +130,19 @@ abbrev StepsSo : ℕ → ℤ → Reaches → StepAnswer → ℕ → Reaches → 
 StepsSo k y before answer m after = (u : VehicleUnit) → StepEnsures (at k u) (callOf 2 (pathTo y) before) before (record { answer = answer; walk = at m u }) after
 
 placed-so : (u : VehicleUnit) (w : Walk) → PlaceEnsures (vehicleWith u) w (callOf 2 (pathTo (pos 5000)) lentRuns) lentRuns (record { answer = P.Placed; walk = at 0 u }) clearedRuns
-unfolding nearestSize nearestZ hasLength faultOf unitsFault vehicleFault placedBy lent stationSound pathSound vehicleSound startVectors placeRefusal atStations
+unfolding emptyUnits nearestSize nearestZ hasLength faultOf unitsFault vehicleFault placedBy lent stationSound pathSound vehicleSound startVectors placeRefusal atStations
 placed-so u w = place-done (vehicleWith u) w (callOf 2 (pathTo (pos 5000)) lentRuns) lentRuns (at 0 u) clearedRuns refl refl refl
 
 made-so : StepsSo 0 (pos 5000) clearedRuns S.Made 1 crossedRuns
-unfolding nearestSize nearestZ hasLength faultOf unitsFault vehicleFault turnedBy tooFar lent stationSound pathSound vehicleSound vectorSound vectorsSound recordSound atLast turnUnits drawStep rearEnd pointAt rigPoints atStations reachOf crosses crossedBy crossedFrom
+unfolding emptyUnits nearestSize nearestZ hasLength faultOf unitsFault vehicleFault turnedBy tooFar lent stationSound pathSound vehicleSound vectorSound vectorsSound recordSound atLast turnUnits drawStep rearEnd pointAt rigPoints atStations reachOf crosses crossedBy crossedFrom
 made-so u = record { stepped = refl; unchanged = λ n. absurd (n refl); runs = refl }
 
 last-so : StepsSo 1 (pos 5000) crossedRuns (S.Refused 25) 1 crossedRuns
-unfolding hasLength faultOf unitsFault vehicleFault lent stationSound pathSound vehicleSound vectorSound vectorsSound recordSound atLast drawStep
+unfolding emptyUnits hasLength faultOf unitsFault vehicleFault lent stationSound pathSound vehicleSound vectorSound vectorsSound recordSound atLast drawStep
 last-so u = record { stepped = refl; unchanged = λ n. refl; runs = refl }
 
 far-so : StepsSo 0 (pos 50001) lentRuns (S.RefusedUnit 22 1) 0 lentRuns
-unfolding hasLength faultOf unitsFault vehicleFault tooFar lent stationSound pathSound vehicleSound vectorSound vectorsSound recordSound atLast turnUnits drawStep
+unfolding emptyUnits hasLength faultOf unitsFault vehicleFault tooFar lent stationSound pathSound vehicleSound vectorSound vectorsSound recordSound atLast turnUnits drawStep
 far-so u = record { stepped = refl; unchanged = λ n. refl; runs = refl }
 
 -- such a call of both records

@@ -2,7 +2,6 @@
 use Prim.Native.Nat.{ℕ}
 use mathlib.Core.Path.{_≡_}
 use lib.ListN.{replicate}
-use lib.IntN.{pos, negsuc}
 use Rattle.job.specs.declared.Vehicle.{Vehicle}
 use Rattle.job.specs.declared.Job.{Job}
 use Rattle.job.specs.Faults.{judge}
@@ -15,25 +14,16 @@ use Rattle.walk.specs.declared.Walk.{Walk}
 use Rattle.walk.specs.declared.StepAnswer.{StepAnswer}
 use Rattle.walk.specs.declared.StepAnswer.the-variants as S
 use Rattle.walk.specs.Drawn.{view}
-use Rattle.reaches.specs.declared.Best.the-variants.{Found}
 use Rattle.reaches.specs.Cells.{Reaches}
 use Rattle.stations.specs.declared.PlaceAnswer.the-variants as P
 use Rattle.stations.specs.Placing.{callOf, PlaceEnsures}
 use Rattle.stations.specs.Stepping.{StepEnsures}
-use Rattle.run.specs.declared.Finish.{Finish}
 use Rattle.run.specs.declared.Ran.the-variants as R
 use Rattle.run.specs.Run.{RunEnsures}
+use Rattle.run.specs.Worked.{workedFinish}
 use Rattle.unused.specs.Same.{SameJob, SameRig}
 
--- what the worked job comes to: "steps 13", "widest 3 24000 -12000 12000", "front 0 65000" (01, "Rigs to try")
-abbrev pub workedFinish : Finish
-workedFinish = record {
-  steps = 13;
-  widest = Found (record { station = 3; width = pos 24000; left = negsuc 11999; right = pos 12000 });
-  front = record { x = pos 0; y = pos 65000 };
-}
-
--- a job without a fault that is written as the worked record, laid as 14 stations and, lent these seven runs, run to that end
+-- a job without a fault that is written as the worked record, laid as 14 stations and, lent these seven runs, run to the worked end
 pub record RunsAsWorked (j : Job) (path : PathRuns) (reaches : Reaches) : Type 0 where
   pub noFault : judge j ≡ 0
   pub written : WriteEnsures j (replicate 25 0) (W.Bytes 25) workedRecord
