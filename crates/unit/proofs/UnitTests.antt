@@ -3,7 +3,7 @@ use mathlib.Core.Path.{_≡_, refl, sym, _∙_}
 use mathlib.Core.Bool.{Bool, true, false, _&&_}
 use Prim.Native.Nat.{ℕ}
 use lib.Dec.{T, leb}
-use lib.IntN.{ℤ, pos, _*ℤ_}
+use lib.IntN.{ℤ, pos, negsuc, natAbs, _*ℤ_}
 use lib.Signed.{_≤ℤ_, clashℤ}
 use Rattle.exact.proofs.Polynomial.{and-left, and-right}
 use Rattle.exact.proofs.Order.{of-true, ltZ-false}
@@ -21,6 +21,16 @@ pub wheelbase-of : (l : ℕ) → isWheelbase l ≡ true → Wheelbase (pos l)
 wheelbase-of l e =
     let t : T (leb 5000 l && leb l 200000) = of-true e in
     record { least = record { le = and-left (leb 5000 l) (leb l 200000) t }; most = record { le = and-right (leb 5000 l) (leb l 200000) t } }
+
+-- the two forms of the range are one: what is in use as a wheelbase is a number that the test lets pass
+both-true : (a b : Bool) → T a → T b → (a && b) ≡ true
+both-true true true t u = refl
+both-true true false t u = absurd u
+both-true false b t u = absurd t
+
+pub wheelbase-is : (l : ℤ) → Wheelbase l → (l ≡ pos (natAbs l)) × (isWheelbase (natAbs l) ≡ true)
+wheelbase-is (pos l) w = (refl, both-true (leb 5000 l) (leb l 200000) (w .least .le) (w .most .le))
+wheelbase-is (negsuc l) w = absurd (w .least .le)
 
 -- a move that is not too far, both ways
 pub move-of : (f : Vec2) (l : ℤ) → tooFar f l ≡ false → normSq f ≤ℤ (l *ℤ l)
