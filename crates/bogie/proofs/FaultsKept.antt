@@ -1,0 +1,83 @@
+-- A job that is not refused is not refused with another last wheelbase that is allowed either.
+use Prim.Native.Nat.{ℕ, zero, suc, _+_, _-_, _≤_}
+use mathlib.Core.Path.{_≡_, refl}
+use mathlib.Core.List.{List, [], _∷_}
+use mathlib.Core.Bool.{Bool, true, false, _&&_}
+use native.Mathlib.Omega.{arith}
+use borrow.Author.Tests.{leb-true, eq-eqb, ne-eqb}
+use lib.Dec.{leb, eqb}
+use lib.ListN.{length, set, getD, take}
+use lib.Seq.{take-set-lt, getD-take}
+use Rattle.number.specs.Read.{pick}
+use Rattle.number.proofs.FieldCodec.{both, and}
+use Rattle.job.specs.declared.Unit.{Unit as VehicleUnit}
+use Rattle.job.specs.declared.Vehicle.{Vehicle}
+use Rattle.job.specs.declared.Job.{Job}
+use Rattle.job.specs.Allowed.{wheelbaseAllowed, hitchAllowed, foldAllowed, unitAllowed}
+use Rattle.job.specs.Empty.{emptyUnit}
+use Rattle.job.specs.Faults.{faultOf, unitFault, unitsFault, vehicleFault, judge}
+use Rattle.job.proofs.FaultLaws.{first-none, or-none, sound-vehicle, vehicle-sound, sound, job-sound}
+use Rattle.path.specs.Stations.{stations}
+use Rattle.path.specs.Laying.{PathRuns, roomFor}
+use Rattle.walk.specs.Tests.{reachesLent}
+use Rattle.reaches.specs.Cells.{Reaches, lengthsOf}
+use Rattle.run.specs.Run.{runRefusal}
+use Rattle.run.proofs.RunLaws.{all-passed}
+use Rattle.bogie.specs.Settings.{unitSet, vehicleSet, jobSet}
+
+-- among values counted by their state, one is replaced by another that has no fault at its place
+pub fault-set : {A : Type 0} (one : ℕ → A → ℕ) (t : ℕ) (xs : List A) (i : ℕ) (y z : A) → ((k : ℕ) → k ≡ t + i → one k (getD xs i z) ≡ 0 → one k y ≡ 0) → faultOf one (λ k x. k + 1) (λ k. 0) t xs ≡ 0 → faultOf one (λ k x. k + 1) (λ k. 0) t (set xs i y) ≡ 0
+unfolding faultOf
+fault-set one t [] i y z f h = h
+fault-set one t (x ∷ xs) zero y z f h =
+    let k = first-none (one t x) (faultOf one (λ k x. k + 1) (λ k. 0) (t + 1) xs) h in
+    let e = f t (omega arith) (k .0) in
+    rw e (k .1)
+fault-set one t (x ∷ xs) (suc i) y z f h =
+    let k = first-none (one t x) (faultOf one (λ k x. k + 1) (λ k. 0) (t + 1) xs) h in
+    let e = k .0 in
+    rw e (fault-set one (t + 1) xs i y z (λ m p. f m (omega arith)) (k .1))
+
+-- the last unit's hitch is 0 whatever its wheelbase is
+pub unit-kept : (first : Bool) (u : VehicleUnit) (w : ℕ) → wheelbaseAllowed w ≡ true → unitAllowed first true u ≡ true → unitAllowed first true (unitSet u w) ≡ true
+unit-kept first u w h k = and h (both (wheelbaseAllowed (u .wheelbase)) (hitchAllowed true (u .wheelbase) (u .hitch) && foldAllowed first (u .fold)) k .1)
+
+last-kept : (count k : ℕ) (u : VehicleUnit) (w : ℕ) → k + 1 ≡ count → wheelbaseAllowed w ≡ true → unitFault count k u ≡ 0 → unitFault count k (unitSet u w) ≡ 0
+last-kept count k u w e h f =
+    let t = eq-eqb (k + 1) count e in
+    let a = unit-kept (eqb k 0) u w h (or-none (unitAllowed (eqb k 0) true u) 3 0 (rw t at f) .0) in
+    rw (t, a) refl
+
+units-kept : (count : ℕ) (us : List VehicleUnit) (w : ℕ) → 1 ≤ count → wheelbaseAllowed w ≡ true → unitsFault count us ≡ 0 → unitsFault count (set us (count - 1) (unitSet (getD us (count - 1) emptyUnit) w)) ≡ 0
+unfolding unitsFault
+units-kept count us w l h f =
+    let u = getD us (count - 1) emptyUnit in
+    rw (take-set-lt count us (count - 1) (unitSet u w) (omega arith))
+    (fault-set (unitFault count) 0 (take count us) (count - 1) (unitSet u w) emptyUnit
+    (λ k e g. last-kept count k u w (omega arith) h (rw (getD-take count us (count - 1) emptyUnit (omega arith)) at g))
+    f)
+
+pub kept-vehicle : (v : Vehicle) (w : ℕ) → vehicleFault v ≡ 0 → wheelbaseAllowed w ≡ true → vehicleFault (vehicleSet v w) ≡ 0
+kept-vehicle v w f h =
+    let s = sound-vehicle v f in
+    let least = leb-true 1 (v .count) (both (leb 1 (v .count)) (leb (v .count) 4) (s .count) .0) in
+    vehicle-sound (vehicleSet v w) (record { count = s .count; units = units-kept (v .count) (v .units) w least h (s .units); widths = s .widths })
+
+pub kept-job : (j : Job) (w : ℕ) → judge j ≡ 0 → wheelbaseAllowed w ≡ true → judge (jobSet j w) ≡ 0
+kept-job j w f h =
+    let s = sound j f in
+    job-sound (jobSet j w) (record { vehicle = kept-vehicle (j .vehicle) w (s .vehicle) h; start = s .start; step = s .step; count = s .count; elements = s .elements })
+
+-- the number 0 of a run's tests: none was failed
+pub passed : (f m : ℕ) (b c : Bool) → pick (eqb f 0) (pick (b && c) 0 (suc m)) f ≡ 0 → (f ≡ 0) × (b ≡ true) × (c ≡ true)
+passed zero m true true e = (refl, refl, refl)
+passed zero m true false e = absurd (omega arith)
+passed zero m false c e = absurd (omega arith)
+passed (suc f) m b c e = absurd (let z = ne-eqb (suc f) 0 (λ x. omega arith) in let y = rw z at e in omega arith)
+
+pub kept-refusal : (j : Job) (p : PathRuns) (r : Reaches) (w : ℕ) → runRefusal j p r ≡ 0 → wheelbaseAllowed w ≡ true → runRefusal (jobSet j w) p r ≡ 0
+unfolding runRefusal stations
+kept-refusal j p r w e h =
+    let n = length (stations j) in
+    let k = passed (judge j) 20 (roomFor n p) (reachesLent n (lengthsOf r)) e in
+    all-passed (jobSet j w) p r (kept-job j w (k .0) h) (k .1) (k .2)

@@ -1,0 +1,11 @@
+pub mod EnterLaws
+pub mod FaultsKept
+pub mod RailLaws
+pub mod Forgotten
+pub mod WalksLaws
+pub mod OrderLaws
+pub mod RankLaws
+pub mod FittingLaws
+pub mod RefusalLaws
+pub mod ListLaws
+pub mod BestLaws

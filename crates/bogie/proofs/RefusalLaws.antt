@@ -1,0 +1,91 @@
+-- The refusals before any walk are 3 to 9, 21 and 29, never 30; without one the job is walked at each setting, and a run's answer is what its walk comes to.
+use Prim.Native.Nat.{ℕ, zero, suc, _+_, _≤_, _<_}
+use mathlib.Core.Path.{_≡_, refl}
+use mathlib.Core.Bool.{Bool, true, false, _&&_}
+use mathlib.Core.List.{List, [], _∷_}
+use native.Mathlib.Omega.{arith}
+use lib.Dec.{eqb}
+use lib.ListN.{length, take}
+use Rattle.job.specs.declared.Unit.{Unit as VehicleUnit}
+use Rattle.job.specs.declared.Element.{Element}
+use Rattle.job.specs.declared.Job.{Job}
+use Rattle.job.specs.Allowed.{unitCountAllowed, unitAllowed, widthsAllowed, startAllowed, stepAllowed, elementCountAllowed, elementAllowed}
+use Rattle.job.specs.Steps.{tally, stepsAllowed}
+use Rattle.job.specs.Faults.{orFault, firstOf, faultOf, unitFault, unitsFault, elementFault, totalFault, elementsFault, vehicleFault, judge}
+use Rattle.job.proofs.FaultLaws.{first-none, or-none}
+use Rattle.path.specs.Stations.{stations}
+use Rattle.path.specs.Laying.{PathRuns, roomFor}
+use Rattle.walk.specs.Tests.{reachesLent}
+use Rattle.reaches.specs.Cells.{Reaches, lengthsOf}
+use Rattle.run.specs.declared.Ran.{Ran}
+use Rattle.run.specs.Run.{runRefusal, jobPath, jobCourse, RunEnsures}
+use Rattle.bogie.specs.Settings.{Rail, settingAt, railAllowed, jobSet}
+use Rattle.bogie.specs.List.{listRefusal, ranJob}
+use Rattle.bogie.proofs.FaultsKept.{kept-refusal}
+use Rattle.bogie.proofs.RailLaws.{SoundRail, sound-rail}
+
+-- ---- how large a refusal is
+
+first-most : (a b m : ℕ) → a ≤ m → b ≤ m → firstOf a b ≤ m
+first-most zero b m h k = k
+first-most (suc a) b m h k = h
+
+or-most : (t : Bool) (n rest m : ℕ) → n ≤ m → rest ≤ m → orFault t n rest ≤ m
+or-most true n rest m h k = k
+or-most false n rest m h k = h
+
+alone : (t : Bool) (n m : ℕ) → n ≤ m → orFault t n 0 ≤ m
+alone t n m h = or-most t n 0 m h (omega arith)
+
+fault-most : {T A : Type 0} (one : T → A → ℕ) (next : T → A → T) (end : T → ℕ) (m : ℕ) → ((t : T) (x : A) → one t x ≤ m) → ((t : T) → end t ≤ m) → (t : T) (xs : List A) → faultOf one next end t xs ≤ m
+unfolding faultOf
+fault-most one next end m h k t [] = k t
+fault-most one next end m h k t (x ∷ xs) = first-most (one t x) (faultOf one next end (next t x) xs) m (h t x) (fault-most one next end m h k (next t x) xs)
+
+units-most : (count : ℕ) (us : List VehicleUnit) → unitsFault count us ≤ 9
+unfolding unitsFault
+units-most count us =
+    fault-most (unitFault count) (λ i u. i + 1) (λ i. 0) 9 (λ i u. alone (unitAllowed (eqb i 0) (eqb (i + 1) count) u) 4 9 (omega arith)) (λ i. omega arith) 0 (take count us)
+
+elements-most : (step count : ℕ) (es : List Element) → elementsFault step count es ≤ 9
+unfolding elementsFault
+elements-most step count es =
+    fault-most elementFault (tally step) totalFault 9 (λ t e. alone (elementAllowed e) 8 9 (omega arith)) (λ t. alone (stepsAllowed t) 9 9 (omega arith)) 0 (take count es)
+
+judge-most : (j : Job) → judge j ≤ 9
+unfolding judge vehicleFault
+judge-most j =
+    let v = j .vehicle in
+    first-most _ _ 9
+    (or-most (unitCountAllowed (v .count)) 3 _ 9 (omega arith) (first-most _ _ 9 (units-most (v .count) (v .units)) (alone (widthsAllowed v) 5 9 (omega arith))))
+    (or-most (startAllowed (j .start)) 6 _ 9 (omega arith)
+    (or-most (stepAllowed (j .step)) 7 _ 9 (omega arith)
+    (or-most (elementCountAllowed (j .count)) 8 _ 9 (omega arith) (elements-most (j .step) (j .count) (j .elements)))))
+
+pub refusal-most : (j : Job) (b : Rail) (p : PathRuns) (r : Reaches) → listRefusal j b p r ≤ 29
+unfolding listRefusal runRefusal
+refusal-most j b p r =
+    let n = length (stations j) in
+    first-most _ _ 29
+    (or-most (eqb (judge j) 0) (judge j) _ 29 (omega (arith, judge-most j)) (alone (roomFor n p && reachesLent n (lengthsOf r)) 21 29 (omega arith)))
+    (alone (railAllowed b) 29 29 (omega arith))
+
+-- ---- none
+
+module _ (j : Job) (b : Rail) (p : PathRuns) (r : Reaches) (none : listRefusal j b p r ≡ 0) where
+  pub rail-passed : SoundRail b
+  unfolding listRefusal
+  rail-passed = sound-rail b (or-none (railAllowed b) 28 0 (first-none (runRefusal j p r) (orFault (railAllowed b) 29 0) none .1) .0)
+
+  pub none-at : (i : ℕ) → i < b .number → runRefusal (jobSet j (settingAt b i)) p r ≡ 0
+  unfolding listRefusal
+  none-at i l = kept-refusal j p r (settingAt b i) (first-none (runRefusal j p r) (orFault (railAllowed b) 29 0) none .0) (rail-passed .wheelbases i l)
+
+-- ---- the answer of a run that is not refused
+
+module _ (j : Job) (p : PathRuns) (r : Reaches) (none : runRefusal j p r ≡ 0) where
+  pub run-is : RunEnsures j p r (ranJob j p r) (jobPath j p) (jobCourse j p r .runs)
+  run-is = record { answered = rw none refl; path = rw none refl; reaches = rw none refl }
+
+  pub is-run : {a : Ran} {q : PathRuns} {s : Reaches} → RunEnsures j p r a q s → (a ≡ ranJob j p r) × (q ≡ jobPath j p) × (s ≡ jobCourse j p r .runs)
+  is-run h = (rw none at (h .answered), rw none at (h .path), rw none at (h .reaches))

@@ -1,0 +1,84 @@
+-- The claim about the list (02, N1: "Demand 2 now covers this list"), over what `list_settings` and `run::run` ensure.
+use Prim.Native.Nat.{ℕ, _≤_, _<_}
+use mathlib.Core.Path.{_≡_}
+use mathlib.Core.Logic.{_⊎_}
+use mathlib.Core.List.{List, [], _∷_}
+use lib.ListN.{length}
+use lib.IntN.{ℤ}
+use lib.Signed.{_<ℤ_}
+use Rattle.job.specs.declared.Job.{Job}
+use Rattle.path.specs.Laying.{PathRuns}
+use Rattle.reaches.specs.Cells.{Reaches}
+use Rattle.reaches.specs.declared.Place.{Place}
+use Rattle.reaches.specs.declared.Best.the-variants.{Found}
+use Rattle.run.specs.declared.Finish.{Finish}
+use Rattle.run.specs.declared.Ran.{Ran}
+use Rattle.run.specs.declared.Ran.the-variants as R
+use Rattle.run.specs.Run.{RunEnsures}
+use Rattle.bogie.specs.declared.Setting.{Setting}
+use Rattle.bogie.specs.declared.Listed.{Listed}
+use Rattle.bogie.specs.declared.Listed.the-variants as L
+use Rattle.bogie.specs.Settings.{Rail, settingAt, lastSetting, jobSet}
+use Rattle.bogie.specs.Ranking.{settingsIn}
+use Rattle.bogie.specs.List.{listRefusal, ListEnsures}
+
+-- "least widest width first, the shorter wheelbase first among equals"
+abbrev pub Before : Setting → Setting → Type 0
+Before s t = (s .width <ℤ t .width) ⊎ ((s .width ≡ t .width) × (s .wheelbase < t .wheelbase))
+
+-- each strictly before the next, so that none stands twice
+abbrev pub InOrder : List Setting → Type 0
+InOrder [] = Unit {0}
+InOrder (s ∷ []) = Unit {0}
+InOrder (s ∷ t ∷ ts) = Before s t × InOrder (t ∷ ts)
+
+abbrev pub Among : Setting → List Setting → Type 0
+Among s [] = ⊥
+Among s (t ∷ ts) = (s ≡ t) ⊎ Among s ts
+
+-- "all that reach the last station with a complete station": finished, with a widest place of this width
+pub record Reached (a : Ran) (width : ℤ) : Type 0 where
+  pub finish : Finish
+  pub place : Place
+  pub finished : a ≡ R.Finished finish
+  pub widest : finish .widest ≡ Found place
+  pub of : place .width ≡ width
+
+-- whatever a run of the job with this last wheelbase, on the runs handed in, answers, it is that
+abbrev pub RunReaches : Job → PathRuns → Reaches → ℕ → ℤ → Type 0
+RunReaches j p r w width = (a : Ran) (p' : PathRuns) (r' : Reaches) → RunEnsures (jobSet j w) p r a p' r' → Reached a width
+
+-- a listed setting is one of the rail's, and its run is finished with a widest place of its width
+pub record IsSetting (j : Job) (b : Rail) (p : PathRuns) (r : Reaches) (s : Setting) : Type 0 where
+  pub index : ℕ
+  pub inside : index < b .number
+  pub wheelbase : s .wheelbase ≡ settingAt b index
+  pub run : RunReaches j p r (s .wheelbase) (s .width)
+
+-- listed; or three are, and each comes before it
+abbrev pub ListedOrBeaten : Setting → List Setting → Type 0
+ListedOrBeaten s l = Among s l ⊎ ((length l ≡ 3) × ((t : Setting) → Among t l → Before t s))
+
+-- no setting's run is finished with a complete station
+abbrev pub NoneReaches : Job → Rail → PathRuns → Reaches → Type 0
+NoneReaches j b p r = (i : ℕ) (width : ℤ) → i < b .number → RunReaches j p r (settingAt b i) width → ⊥
+
+-- what is claimed of a list handed back
+pub record BestOf (j : Job) (b : Rail) (p : PathRuns) (r : Reaches) (answer : Listed) (p' : PathRuns) (r' : Reaches) : Type 0 where
+  pub settings : (s : Setting) → Among s (settingsIn answer) → IsSetting j b p r s
+  pub three : length (settingsIn answer) ≤ 3
+  pub ordered : InOrder (settingsIn answer)
+  -- nothing better is left out: a setting whose run is finished with a complete station is listed, or beaten by three that are
+  pub all : listRefusal j b p r ≡ 0 → (i : ℕ) (width : ℤ) → i < b .number → RunReaches j p r (settingAt b i) width → ListedOrBeaten (record { wheelbase = settingAt b i; width = width }) (settingsIn answer)
+  -- "with 30 exactly when there is none to list", of what 3 to 9, 21 and 29 let pass
+  pub none : answer ≡ L.Refused 30 → (listRefusal j b p r ≡ 0) × NoneReaches j b p r
+  pub only : listRefusal j b p r ≡ 0 → NoneReaches j b p r → answer ≡ L.Refused 30
+  -- "Afterwards, 30 included, ... the lent runs hold the last setting's walk as far as it went": all seven are as a run of it leaves them
+  pub runs : listRefusal j b p r ≡ 0 → (a : Ran) (q : PathRuns) (s : Reaches) → RunEnsures (jobSet j (lastSetting b)) p r a q s → (p' ≡ q) × (r' ≡ s)
+  -- else the number is told, and nothing is written
+  pub refused : (listRefusal j b p r ≡ 0 → ⊥) → (answer ≡ L.Refused (listRefusal j b p r)) × ((p' ≡ p) × (r' ≡ r))
+
+-- the claim
+abbrev pub BestSettings : Type 0
+BestSettings = (j : Job) (b : Rail) (p : PathRuns) (r : Reaches) (answer : Listed) (p' : PathRuns) (r' : Reaches)
+    → ListEnsures j b p r answer p' r' → BestOf j b p r answer p' r'

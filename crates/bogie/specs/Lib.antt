@@ -1,0 +1,5 @@
+pub mod Settings
+pub mod Ranking
+pub mod List
+pub mod Walks
+pub mod Best
