@@ -2,8 +2,8 @@
 use native.Mathlib.Omega.{arith}
 use mathlib.Core.Path.{_≡_, sym, _∙_, ap, subst}
 use lib.ListN.{length}
-use Rattle.sweep.specs.declared.Input.{Input}
-use Rattle.sweep.specs.Input.{InputEnsures}
+use Rattle.job_input.specs.declared.Input.{Input}
+use Rattle.job_input.specs.Input.{InputEnsures}
 use borrow.Author.Needs.{needs}
 use Rattle.sweep.proofs.main.Statement.{statement}
 use Rattle.sweep.proofs.main.Tie as tie

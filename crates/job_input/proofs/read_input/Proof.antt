@@ -1,4 +1,4 @@
--- `sweep::read_input` meets its contract: the count stays within the buffer, and each turn that goes on fills more of it.
+-- `job_input::read_input` meets its contract: the count stays within the buffer, and each turn that goes on fills more of it.
 use Prim.Native.Nat.{_+_, _-_, _≤_}
 use mathlib.Core.Path.{_≡_, refl, _∙_, subst}
 use native.Mathlib.Omega.{arith}
@@ -6,10 +6,10 @@ use lib.ListN.{length}
 use borrow.Author.Needs.{needs}
 use borrow.Rule.Slice.PartMut.{mid-len}
 use Rattle.io.proofs.Counting.{counts}
-use Rattle.sweep.specs.declared.Input.{Input}
-use Rattle.sweep.specs.Input.{InputEnsures}
-use Rattle.sweep.proofs.read_input.Statement.{statement}
-use Rattle.sweep.proofs.read_input.Tie as tie
+use Rattle.job_input.specs.declared.Input.{Input}
+use Rattle.job_input.specs.Input.{InputEnsures}
+use Rattle.job_input.proofs.read_input.Statement.{statement}
+use Rattle.job_input.proofs.read_input.Tie as tie
 
 abbrev Inv-loop : tie.InvT-loop
 Inv-loop fd buffer₀ done₀ buffer done = (done ≤ length buffer) × (length buffer ≡ length buffer₀)

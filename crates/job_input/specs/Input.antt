@@ -2,8 +2,8 @@
 use Prim.Native.Nat.{ℕ}
 use mathlib.Core.List.{List}
 use Rattle.io.specs.Counts.{Counts}
-use Rattle.sweep.specs.declared.Input.{Input}
-use Rattle.sweep.specs.declared.Input.the-variants as I
+use Rattle.job_input.specs.declared.Input.{Input}
+use Rattle.job_input.specs.declared.Input.the-variants as I
 
 -- a count of bytes at the start of the buffer, or a failed read, of which nothing is told
 abbrev pub InputEnsures : Input → List ℕ → Type 0
