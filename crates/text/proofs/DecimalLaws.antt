@@ -17,7 +17,7 @@ digits-length zero n = refl
 digits-length (suc k) n = omega (arith, length-append (digits k (n / 10)) (digit (n % 10) ∷ []), digits-length k (n / 10))
 
 -- a number has one digit or more
-either : {A : Type 0} (n : ℕ) → (n < 10 → A) → (10 ≤ n → A) → A
+pub either : {A : Type 0} (n : ℕ) → (n < 10 → A) → (10 ≤ n → A) → A
 either {A} n f g = go (ltb n 10) refl
   where
     go : (b : Bool) → ltb n 10 ≡ b → A

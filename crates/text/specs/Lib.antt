@@ -1,4 +1,5 @@
 pub mod Ascii
 pub mod Decimal
 pub mod Inner
+pub mod Reading
 pub mod Texts

@@ -1,10 +1,11 @@
-// Numbers as ASCII text, written into a lent run of bytes.
+// Numbers as ASCII text, written into a lent run of bytes, and read from bytes.
 ghost use mathlib.Core.Path.{_≡_};
 ghost use Prim.Native.Nat.{_+_};
 ghost use lib.ListN.{length};
 ghost use lib.Seq.{sets};
 ghost use lib.IntN.{natAbs};
 ghost use Rattle.text.specs.Decimal.{digits, decimal, signedDecimal};
+ghost use Rattle.text.specs.Reading.{isDigit, readDecimal, RoundTrip};
 ghost use Rattle.text.specs.Inner.{Room};
 ghost use Rattle.text.specs.Texts.{WorkedTexts};
 
@@ -79,7 +80,47 @@ pub fn put_signed(run: &mut [u8], at: usize, z: i64) -> usize
     }
 }
 
-// Claim: texts that pin the digits' order, the sign and the characters' codes.
+// What a text in base ten says: a number of 32 bits, or nothing that can be read.
+pub enum Decimal {
+    Number(u32),
+    Unreadable,
+}
+
+fn is_digit(b: u8) -> bool
+    ensures { λ r. ⌜ r ≡ isDigit b ⌝ }
+{
+    48 <= b && b <= 57
+}
+
+// Reads a number, zeros in front included. It stops at the first byte that is no digit and where the value is too large, because nothing after either makes it a number again.
+pub fn read_decimal(bytes: &[u8]) -> Decimal
+    ensures { λ r. ⌜ r ≡ readDecimal (now (bytes .entry)) ⌝ }
+{
+    if bytes.len() == 0 {
+        return Decimal::Unreadable;
+    }
+    let mut value: u64 = 0;
+    let mut i: usize = 0;
+    while i < bytes.len() {
+        let b = bytes[i];
+        if !is_digit(b) {
+            return Decimal::Unreadable;
+        }
+        value = value * 10 + (b - 48) as u64;
+        if 4294967295 < value {
+            return Decimal::Unreadable;
+        }
+        i += 1;
+    }
+    Decimal::Number(value as u32)
+}
+
+// Claim: what is written is read back, up to the largest number of 32 bits, and zeros in front change nothing.
+pub fn decimal_round_trip()
+    ensures { λ _. ⌜ RoundTrip ⌝ }
+{}
+
+// Claim: texts that pin the digits' order, the sign and the characters' codes, and what can be read.
 pub fn worked_texts()
     ensures { λ _. ⌜ WorkedTexts ⌝ }
 {}
