@@ -7,10 +7,8 @@ use native.Mathlib.Nat.{zero-add}
 use lib.ListN.{length, take, drop, replicate, length-replicate}
 use lib.Seq.{sets, sets-eq, drop-at}
 use Rattle.number.proofs.CodecMany.{take-sets}
-use Rattle.swept.specs.declared.Swept.{Swept}
-use Rattle.answer_text.specs.Printed.{printed}
 use Rattle.answer_text.specs.Appending.{appended, nothing, Line}
-use Rattle.answer_text.specs.Answers.{TextEnsures}
+use Rattle.answer_text.specs.Answers.{TextIs}
 use Rattle.answer_text.specs.declared.Text.{Text}
 
 drop-replicate : (k n : ℕ) (a : ℕ) → drop k (replicate n a) ≡ replicate (n - k) a
@@ -21,10 +19,9 @@ drop-replicate (suc k) (suc n) a = let e : suc n - suc k ≡ n - k = omega arith
 drop-sets : (l a : List ℕ) → length a ≤ length l → drop (length a) (sets l 0 a) ≡ drop (length a) l
 drop-sets l a h = rw (sets-eq a l 0 (omega arith), zero-add (length a)) (drop-at a (drop (length a) l) (length a) refl)
 
-pub whole : (s : Swept) (r : Text) (m : ℕ) → m ≤ 192 → Line nothing (printed s) m r → TextEnsures s r
+pub whole : (p : List ℕ) (r : Text) (m : ℕ) → m ≤ 192 → Line nothing p m r → TextIs p r
 unfolding nothing
-whole s r m h l =
-    let p = printed s in
+whole p r m h l =
     let empty : List ℕ = replicate 192 0 in
     let w : length p ≤ length empty = omega (arith, l .width, length-replicate {A = ℕ} 192 0) in
     let n : r .length ≡ length p = ap (λ (x : Text). x .length) (l .put) ∙ zero-add (length p) in
