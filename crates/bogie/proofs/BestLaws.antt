@@ -1,5 +1,5 @@
 -- The claim about the list: of a job that is walked, and of one that is refused before any walk.
-use Prim.Native.Nat.{ℕ, zero, suc, _-_, _<_}
+use Prim.Native.Nat.{ℕ, zero, suc, _+_, _-_, _<_}
 use mathlib.Core.Path.{_≡_, refl, sym, _∙_, ap, subst, subst⁻¹}
 use mathlib.Core.Logic.{inl}
 use mathlib.Core.List.{List, [], _∷_}
@@ -18,11 +18,11 @@ use Rattle.bogie.specs.declared.Listed.the-variants as L
 use Rattle.bogie.specs.Settings.{Rail, settingAt, lastSetting, jobSet}
 use Rattle.bogie.specs.Ranking.{fitting, listedOf, settingsIn}
 use Rattle.bogie.specs.List.{listRefusal, ranAt, rankedSettings}
-use Rattle.bogie.specs.Best.{Among, Reached, RunReaches, BestOf, BestSettings}
+use Rattle.bogie.specs.Best.{Among, Reached, RunReaches, Walked, BestOf, BestSettings}
 use Rattle.bogie.proofs.RailLaws.{setting-grows}
 use Rattle.bogie.proofs.RankLaws.{Sorted, ranked-from, ranked-has, ranked-sorted, sorted-in-order, take-from, take-sorted, taken-or-beaten, listed-three}
 use Rattle.bogie.proofs.FittingLaws.{settingOf, Fits, fitting-from, fitting-has, fitting-distinct}
-use Rattle.bogie.proofs.RefusalLaws.{refusal-most, rail-passed, none-at, run-is, is-run}
+use Rattle.bogie.proofs.RefusalLaws.{refusal-most, is-walked, none-refused, run-first, limits-next, none-at, run-is, is-run}
 
 -- 30 exactly where there is none to list
 listed-none : (l : List Setting) → listedOf l ≡ L.Refused 30 → (s : Setting) → Among s l → ⊥
@@ -36,7 +36,7 @@ none-listed : (l : List Setting) → ((s : Setting) → Among s l → ⊥) → l
 none-listed [] h = refl
 none-listed (s ∷ l) h = absurd (h s (inl refl))
 
-module _ (j : Job) (b : Rail) (p : PathRuns) (r : Reaches) (none : listRefusal j b p r ≡ 0) where
+module _ (j : Job) (b : Rail) (p : PathRuns) (r : Reaches) (walked : Walked j b p r) where
   abbrev fits : List Setting
   fits = fitting (ranAt j p r) (settingAt b) (b .number)
 
@@ -46,19 +46,19 @@ module _ (j : Job) (b : Rail) (p : PathRuns) (r : Reaches) (none : listRefusal j
   -- whatever a run at a setting answers is what its walk comes to
   run-reaches : (s : Setting) (f : Fits (ranAt j p r) (settingAt b) (b .number) s) → RunReaches j p r (settingAt b (f .index)) (s .width)
   run-reaches s f a q t e =
-      subst⁻¹ (λ (x : Ran). Reached x (s .width)) (is-run (jobSet j (settingAt b (f .index))) p r (none-at j b p r none (f .index) (f .inside)) e .0) (f .reached)
+      subst⁻¹ (λ (x : Ran). Reached x (s .width)) (is-run (jobSet j (settingAt b (f .index))) p r (none-at j b p r walked (f .index) (f .inside)) e .0) (f .reached)
 
   reached : (i : ℕ) (width : ℤ) → i < b .number → RunReaches j p r (settingAt b i) width → Among (settingOf (settingAt b i) width) all
   reached i width l h =
       let k = jobSet j (settingAt b i) in
       ranked-has (settingOf (settingAt b i) width) fits
-      (fitting-has (ranAt j p r) (settingAt b) (b .number) i width l (h _ _ _ (run-is k p r (none-at j b p r none i l))))
+      (fitting-has (ranAt j p r) (settingAt b) (b .number) i width l (h _ _ _ (run-is k p r (none-at j b p r walked i l))))
 
   fits-of : (s : Setting) → Among s all → Fits (ranAt j p r) (settingAt b) (b .number) s
   fits-of s m = fitting-from (ranAt j p r) (settingAt b) (b .number) s (ranked-from s fits m)
 
   sorted : Sorted all
-  sorted = ranked-sorted fits (fitting-distinct (ranAt j p r) (settingAt b) (λ i k l. setting-grows b i k (rail-passed j b p r none .pitch) l) (b .number))
+  sorted = ranked-sorted fits (fitting-distinct (ranAt j p r) (settingAt b) (λ i k l. setting-grows b i k (walked .limits .pitch) l) (b .number))
 
   best-listed : (p' : PathRuns) (r' : Reaches) → p' ≡ jobPath j p → r' ≡ jobCourse (jobSet j (lastSetting b)) p r .runs → BestOf j b p r (listedOf all) p' r'
   unfolding stations
@@ -74,29 +74,34 @@ module _ (j : Job) (b : Rail) (p : PathRuns) (r : Reaches) (none : listRefusal j
     three = rw (listed-three all) (omega (arith, length-take 3 all));
     ordered = rw (listed-three all) (sorted-in-order (take 3 all) (take-sorted 3 all sorted));
     all = λ _ i width l h. rw (listed-three all) (taken-or-beaten (settingOf (settingAt b i) width) 3 all sorted (reached i width l h));
-    none = λ e. (none, λ i width l h. listed-none all e (settingOf (settingAt b i) width) (reached i width l h));
+    none = λ e. (walked, λ i width l h. listed-none all e (settingOf (settingAt b i) width) (reached i width l h));
     only = λ _ h. none-listed all (λ s m. let f = fits-of s m in h (f .index) (s .width) (f .inside) (run-reaches s f));
-    runs = λ _ a q s e.
-        let k = is-run (jobSet j (lastSetting b)) p r (none-at j b p r none (b .number - 1) (omega (arith, rail-passed j b p r none .least))) e in
-        (laid ∙ sym (k .1), left ∙ sym (k .2));
-    refused = λ h. absurd (h none);
+    runs = λ _ i l a q s e.
+        let last : settingAt b i ≡ lastSetting b = ap (settingAt b) (omega (arith, l)) in
+        let k = is-run (jobSet j (settingAt b i)) p r (none-at j b p r walked i (omega (arith, l))) e in
+        (laid ∙ sym (k .1), left ∙ ap (λ (w : ℕ). jobCourse (jobSet j w) p r .runs) (sym last) ∙ sym (k .2));
+    before = λ h. absurd (h (walked .run));
+    outside = λ _ h. absurd (h (walked .limits));
   }
 
 best-refused : (j : Job) (b : Rail) (p : PathRuns) (r : Reaches) (n : ℕ) (p' : PathRuns) (r' : Reaches) → listRefusal j b p r ≡ suc n → p' ≡ p → r' ≡ r → BestOf j b p r (L.Refused (suc n)) p' r'
-best-refused j b p r n p' r' e f g = record {
-  settings = λ s m. absurd m;
-  three = omega arith;
-  ordered = tt;
-  all = λ z. absurd (omega arith);
-  none = λ h. let k : suc n ≡ 30 = cc in absurd (omega (arith, refusal-most j b p r));
-  only = λ z. absurd (omega arith);
-  runs = λ z. absurd (omega arith);
-  refused = λ _. (ap L.Refused (sym e), (f, g));
-}
+best-refused j b p r n p' r' e f g =
+    let not : Walked j b p r → ⊥ = λ w. omega (arith, none-refused j b p r w, e) in
+    record {
+      settings = λ s m. absurd m;
+      three = omega arith;
+      ordered = tt;
+      all = λ w. absurd (not w);
+      none = λ h. let k : suc n ≡ 30 = cc in absurd (omega (arith, refusal-most j b p r));
+      only = λ w. absurd (not w);
+      runs = λ w. absurd (not w);
+      before = λ h. (ap L.Refused (sym e ∙ run-first j b p r h), (f, g));
+      outside = λ h k. (ap L.Refused (sym e ∙ limits-next j b p r h k), (f, g));
+    }
 
 pub best-settings : BestSettings
 best-settings j b p r answer p' r' h = by (listRefusal j b p r) refl
   where
     by : (n : ℕ) → listRefusal j b p r ≡ n → BestOf j b p r answer p' r'
-    by zero e = subst⁻¹ (λ (a : Listed). BestOf j b p r a p' r') (rw e at (h .answered)) (best-listed j b p r e p' r' (rw e at (h .path)) (rw e at (h .reaches)))
+    by zero e = subst⁻¹ (λ (a : Listed). BestOf j b p r a p' r') (rw e at (h .answered)) (best-listed j b p r (is-walked j b p r e) p' r' (rw e at (h .path)) (rw e at (h .reaches)))
     by (suc n) e = subst⁻¹ (λ (a : Listed). BestOf j b p r a p' r') (rw e at (h .answered)) (best-refused j b p r n p' r' e (rw e at (h .path)) (rw e at (h .reaches)))

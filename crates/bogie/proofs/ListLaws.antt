@@ -27,7 +27,7 @@ use Rattle.bogie.specs.Settings.{Rail, railAllowed}
 use Rattle.bogie.specs.List.{listRefusal, ListEnsures}
 use Rattle.bogie.specs.Walks.{runsAfter, Walkable, WalkEnsures}
 use Rattle.bogie.proofs.FaultsKept.{passed}
-use Rattle.bogie.proofs.RailLaws.{sound-rail}
+use Rattle.bogie.proofs.RailLaws.{in-limits}
 
 pub lent-room : (n : ℕ) (p : PathRuns) → pathLent n p ≡ true → roomFor n p ≡ true
 lent-room n p e = both (leb 1 n && leb n 2001) (roomFor n p) e .1
@@ -107,7 +107,7 @@ module _ (j : Job) (b : Rail) (p : PathRuns) (r : Reaches) (none : listRefusal j
     own-path : (l : Listed) (after : Reaches) → WalkEnsures (length (stations j)) (jobPath j p) (j .vehicle) b r l after → ListEnsures j b p r l (jobPath j p) after
     unfolding stations
     own-path l after w =
-        let k = sound-rail b (all-tests j b p r none .rail) in
+        let k = in-limits b (all-tests j b p r none .rail) in
         let e : b .number ≡ suc (b .number - 1) = omega (arith, k .least) in
         record {
           answered = rw none (w .listed);

@@ -12,7 +12,7 @@ use Rattle.job.specs.declared.Job.{Job}
 use Rattle.job.specs.Allowed.{unitCountAllowed, unitAllowed, widthsAllowed, startAllowed, stepAllowed, elementCountAllowed, elementAllowed}
 use Rattle.job.specs.Steps.{tally, stepsAllowed}
 use Rattle.job.specs.Faults.{orFault, firstOf, faultOf, unitFault, unitsFault, elementFault, totalFault, elementsFault, vehicleFault, judge}
-use Rattle.job.proofs.FaultLaws.{first-none, or-none}
+use Rattle.job.proofs.FaultLaws.{first-of, first-none, or-none}
 use Rattle.path.specs.Stations.{stations}
 use Rattle.path.specs.Laying.{PathRuns, roomFor}
 use Rattle.walk.specs.Tests.{reachesLent}
@@ -21,8 +21,9 @@ use Rattle.run.specs.declared.Ran.{Ran}
 use Rattle.run.specs.Run.{runRefusal, jobPath, jobCourse, RunEnsures}
 use Rattle.bogie.specs.Settings.{Rail, settingAt, railAllowed, jobSet}
 use Rattle.bogie.specs.List.{listRefusal, ranJob}
+use Rattle.bogie.specs.Best.{InLimits, Walked}
 use Rattle.bogie.proofs.FaultsKept.{kept-refusal}
-use Rattle.bogie.proofs.RailLaws.{SoundRail, sound-rail}
+use Rattle.bogie.proofs.RailLaws.{in-limits, wheelbase-at, limits-pass}
 
 -- ---- how large a refusal is
 
@@ -72,14 +73,32 @@ refusal-most j b p r =
 
 -- ---- none
 
-module _ (j : Job) (b : Rail) (p : PathRuns) (r : Reaches) (none : listRefusal j b p r ≡ 0) where
-  pub rail-passed : SoundRail b
-  unfolding listRefusal
-  rail-passed = sound-rail b (or-none (railAllowed b) 28 0 (first-none (runRefusal j p r) (orFault (railAllowed b) 29 0) none .1) .0)
+walked-by : (m : ℕ) (t : Bool) → firstOf m (orFault t 29 0) ≡ 0 → (m ≡ 0) × (t ≡ true)
+walked-by m t e = let k = first-none m (orFault t 29 0) e in (k .0, or-none t 28 0 (k .1) .0)
 
-  pub none-at : (i : ℕ) → i < b .number → runRefusal (jobSet j (settingAt b i)) p r ≡ 0
+module _ (j : Job) (b : Rail) (p : PathRuns) (r : Reaches) where
+  pub is-walked : listRefusal j b p r ≡ 0 → Walked j b p r
   unfolding listRefusal
-  none-at i l = kept-refusal j p r (settingAt b i) (first-none (runRefusal j p r) (orFault (railAllowed b) 29 0) none .0) (rail-passed .wheelbases i l)
+  is-walked e = let k = walked-by (runRefusal j p r) (railAllowed b) e in record { run = k .0; limits = in-limits b (k .1) }
+
+  pub none-refused : Walked j b p r → listRefusal j b p r ≡ 0
+  unfolding listRefusal
+  none-refused w = let a = w .run in let c = limits-pass b (w .limits) in rw (a, c) refl
+
+  pub run-first : (runRefusal j p r ≡ 0 → ⊥) → listRefusal j b p r ≡ runRefusal j p r
+  unfolding listRefusal
+  run-first h = first-of (runRefusal j p r) (orFault (railAllowed b) 29 0) h
+
+  pub limits-next : runRefusal j p r ≡ 0 → (InLimits b → ⊥) → listRefusal j b p r ≡ 29
+  unfolding listRefusal
+  limits-next e h = by (railAllowed b) refl
+    where
+      by : (t : Bool) → railAllowed b ≡ t → firstOf (runRefusal j p r) (orFault (railAllowed b) 29 0) ≡ 29
+      by true f = absurd (h (in-limits b f))
+      by false f = rw (e, f) refl
+
+  pub none-at : Walked j b p r → (i : ℕ) → i < b .number → runRefusal (jobSet j (settingAt b i)) p r ≡ 0
+  none-at w i l = kept-refusal j p r (settingAt b i) (w .run) (wheelbase-at b (w .limits) i l)
 
 -- ---- the answer of a run that is not refused
 

@@ -30,7 +30,7 @@ use Rattle.bogie.specs.Walks.{overAt, runsAfter, WalkEnsures, LastUnit, 
 use Rattle.bogie.proofs.EnterLaws.{run-first}
 use Rattle.bogie.proofs.FaultsKept.{kept-vehicle}
 use Rattle.bogie.proofs.Forgotten.{walk-forgotten}
-use Rattle.bogie.proofs.RailLaws.{sound-rail}
+use Rattle.bogie.proofs.RailLaws.{in-limits, wheelbase-at}
 
 module _ (asked : ℕ) (path : PathRuns) (v : Vehicle) (b : Rail) (r : Reaches) where
   pub after-lengths : (i : ℕ) → SameLengths (runsAfter asked path v b r i) r
@@ -57,7 +57,7 @@ module _ (asked : ℕ) (path : PathRuns) (v : Vehicle) (b : Rail) (r : Reaches) 
       pub next-runnable : Walkable v b (callOf asked path r) → i < b .number → Runnable u (callOf asked path runs)
       unfolding vehicleSound
       next-runnable y l =
-          let f = kept-vehicle v (settingAt b i) (eqb-true (vehicleFault v) 0 (y .vehicle)) (sound-rail b (y .rail) .wheelbases i l) in
+          let f = kept-vehicle v (settingAt b i) (eqb-true (vehicleFault v) 0 (y .vehicle)) (wheelbase-at b (in-limits b (y .rail)) i l) in
           record {
             lent = rw (same-call asked path runs-lengths) (y .lent);
             path = y .path;

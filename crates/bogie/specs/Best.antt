@@ -1,5 +1,5 @@
 -- The claim about the list (02, N1: "Demand 2 now covers this list"), over what `list_settings` and `run::run` ensure.
-use Prim.Native.Nat.{ℕ, _≤_, _<_}
+use Prim.Native.Nat.{ℕ, _+_, _*_, _≤_, _<_}
 use mathlib.Core.Path.{_≡_}
 use mathlib.Core.Logic.{_⊎_}
 use mathlib.Core.List.{List, [], _∷_}
@@ -14,13 +14,25 @@ use Rattle.reaches.specs.declared.Best.the-variants.{Found}
 use Rattle.run.specs.declared.Finish.{Finish}
 use Rattle.run.specs.declared.Ran.{Ran}
 use Rattle.run.specs.declared.Ran.the-variants as R
-use Rattle.run.specs.Run.{RunEnsures}
+use Rattle.run.specs.Run.{runRefusal, RunEnsures}
 use Rattle.bogie.specs.declared.Setting.{Setting}
 use Rattle.bogie.specs.declared.Listed.{Listed}
 use Rattle.bogie.specs.declared.Listed.the-variants as L
-use Rattle.bogie.specs.Settings.{Rail, settingAt, lastSetting, jobSet}
+use Rattle.bogie.specs.Settings.{Rail, settingAt, jobSet}
 use Rattle.bogie.specs.Ranking.{settingsIn}
-use Rattle.bogie.specs.List.{listRefusal, ListEnsures}
+use Rattle.bogie.specs.List.{ListEnsures}
+
+-- the limits: "a pitch of at least one tick", "1 to 32 settings", and each setting a wheelbase, in exact numbers
+pub record InLimits (b : Rail) : Type 0 where
+  pub pitch : 1 ≤ b .pitch
+  pub least : 1 ≤ b .number
+  pub most : b .number ≤ 32
+  pub settings : (i : ℕ) → i < b .number → (5000 ≤ b .lowest + i * b .pitch) × (b .lowest + i * b .pitch ≤ 200000)
+
+-- the job is walked: no fault of its own, no run too short, no limit passed
+pub record Walked (j : Job) (b : Rail) (p : PathRuns) (r : Reaches) : Type 0 where
+  pub run : runRefusal j p r ≡ 0
+  pub limits : InLimits b
 
 -- "least widest width first, the shorter wheelbase first among equals"
 abbrev pub Before : Setting → Setting → Type 0
@@ -63,20 +75,25 @@ ListedOrBeaten s l = Among s l ⊎ ((length l ≡ 3) × ((t : Setting) → Among
 abbrev pub NoneReaches : Job → Rail → PathRuns → Reaches → Type 0
 NoneReaches j b p r = (i : ℕ) (width : ℤ) → i < b .number → RunReaches j p r (settingAt b i) width → ⊥
 
+-- a refusal that has written nothing
+abbrev pub Unwritten : ℕ → PathRuns → Reaches → Listed → PathRuns → Reaches → Type 0
+Unwritten n p r answer p' r' = (answer ≡ L.Refused n) × ((p' ≡ p) × (r' ≡ r))
+
 -- what is claimed of a list handed back
 pub record BestOf (j : Job) (b : Rail) (p : PathRuns) (r : Reaches) (answer : Listed) (p' : PathRuns) (r' : Reaches) : Type 0 where
   pub settings : (s : Setting) → Among s (settingsIn answer) → IsSetting j b p r s
   pub three : length (settingsIn answer) ≤ 3
   pub ordered : InOrder (settingsIn answer)
   -- nothing better is left out: a setting whose run is finished with a complete station is listed, or beaten by three that are
-  pub all : listRefusal j b p r ≡ 0 → (i : ℕ) (width : ℤ) → i < b .number → RunReaches j p r (settingAt b i) width → ListedOrBeaten (record { wheelbase = settingAt b i; width = width }) (settingsIn answer)
-  -- "with 30 exactly when there is none to list", of what 3 to 9, 21 and 29 let pass
-  pub none : answer ≡ L.Refused 30 → (listRefusal j b p r ≡ 0) × NoneReaches j b p r
-  pub only : listRefusal j b p r ≡ 0 → NoneReaches j b p r → answer ≡ L.Refused 30
+  pub all : Walked j b p r → (i : ℕ) (width : ℤ) → i < b .number → RunReaches j p r (settingAt b i) width → ListedOrBeaten (record { wheelbase = settingAt b i; width = width }) (settingsIn answer)
+  -- "with 30 exactly when there is none to list"
+  pub none : answer ≡ L.Refused 30 → Walked j b p r × NoneReaches j b p r
+  pub only : Walked j b p r → NoneReaches j b p r → answer ≡ L.Refused 30
   -- "Afterwards, 30 included, ... the lent runs hold the last setting's walk as far as it went": all seven are as a run of it leaves them
-  pub runs : listRefusal j b p r ≡ 0 → (a : Ran) (q : PathRuns) (s : Reaches) → RunEnsures (jobSet j (lastSetting b)) p r a q s → (p' ≡ q) × (r' ≡ s)
-  -- else the number is told, and nothing is written
-  pub refused : (listRefusal j b p r ≡ 0 → ⊥) → (answer ≡ L.Refused (listRefusal j b p r)) × ((p' ≡ p) × (r' ≡ r))
+  pub runs : Walked j b p r → (i : ℕ) → i + 1 ≡ b .number → (a : Ran) (q : PathRuns) (s : Reaches) → RunEnsures (jobSet j (settingAt b i)) p r a q s → (p' ≡ q) × (r' ≡ s)
+  -- "After the job's own faults and 21", which `run` tells alike, "it refuses with 29, before any walk, for a pitch, a count or a setting outside the limits"
+  pub before : (runRefusal j p r ≡ 0 → ⊥) → Unwritten (runRefusal j p r) p r answer p' r'
+  pub outside : runRefusal j p r ≡ 0 → (InLimits b → ⊥) → Unwritten 29 p r answer p' r'
 
 -- the claim
 abbrev pub BestSettings : Type 0

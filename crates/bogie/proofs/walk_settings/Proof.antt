@@ -1,7 +1,7 @@
 use Rattle.walk.specs.Tests.{lent}
 use Rattle.run.specs.declared.Ran.{Ran}
 use Rattle.job.specs.declared.Vehicle.{Vehicle}
-use Rattle.bogie.proofs.RailLaws.{setting-most}
+use Rattle.bogie.proofs.RailLaws.{in-limits}
 use Rattle.bogie.proofs.WalksLaws.{after-lengths, runs-lengths, next-runnable, next-runs, next-listed, none-listed, last-unit, all-walked}
 use Prim.Native.Nat.{ℕ, zero, suc, _+_, _-_, _*_, _≤_, _<_}
 use mathlib.Core.Path.{_≡_, refl, sym, _∙_, ap, subst}
@@ -61,7 +61,7 @@ module _ (l : tie.At-loop Inv-loop μ-loop) where
 
 -- the setting of this turn is a wheelbase
 fits-on : (c : tie.In-loop Inv-loop μ-loop) → settingAt (rail (c .before)) (c .before .loop .i) ≤ 200000
-fits-on c = setting-most (rail (c .before)) (start (c .before) .pre .rail) (c .before .loop .i) (c .loop-test .taken)
+fits-on c = in-limits (rail (c .before)) (start (c .before) .pre .rail) .settings (c .before .loop .i) (c .loop-test .taken) .1
 
 loop-holds : tie.Need-loop-holds Inv-loop μ-loop
 loop-holds c = (omega arith, refl, none-listed _ _)
