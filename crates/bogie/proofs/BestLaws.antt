@@ -1,5 +1,5 @@
 -- The claim about the list: of a job that is walked, and of one that is refused before any walk.
-use Prim.Native.Nat.{ℕ, zero, suc, _+_, _-_, _<_}
+use Prim.Native.Nat.{ℕ, zero, suc, _<_}
 use mathlib.Core.Path.{_≡_, refl, sym, _∙_, ap, subst, subst⁻¹}
 use mathlib.Core.Logic.{inl}
 use mathlib.Core.List.{List, [], _∷_}

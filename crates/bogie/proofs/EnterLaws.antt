@@ -1,6 +1,6 @@
 -- A setting put into its place, and the three first of a list with one more: those behind them do not matter.
 use Prim.Native.Nat.{ℕ}
-use mathlib.Core.Path.{_≡_, refl, sym, _∙_, ap}
+use mathlib.Core.Path.{_≡_, refl}
 use mathlib.Core.Bool.{Bool, true, false}
 use mathlib.Core.List.{List, [], _∷_}
 use Rattle.reaches.specs.declared.Best.{Best}
@@ -10,7 +10,7 @@ use Rattle.run.specs.declared.Ran.the-variants as R
 use Rattle.bogie.specs.declared.Setting.{Setting}
 use Rattle.bogie.specs.declared.Listed.{Listed}
 use Rattle.bogie.specs.declared.Listed.the-variants.{One, Two, Three, Refused}
-use Rattle.bogie.specs.Ranking.{isBefore, insert, ranked, listedOf, settingsIn, entered, runEntered, widestEntered, withRun, withWidest}
+use Rattle.bogie.specs.Ranking.{isBefore, insert, ranked, listedOf, entered, runEntered, widestEntered, withRun, withWidest}
 
 module _ (s : Setting) where
   pub put-last : insert s [] ≡ s ∷ []

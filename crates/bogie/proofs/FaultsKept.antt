@@ -2,13 +2,12 @@
 use Prim.Native.Nat.{ℕ, zero, suc, _+_, _-_, _≤_}
 use mathlib.Core.Path.{_≡_, refl}
 use mathlib.Core.List.{List, [], _∷_}
-use mathlib.Core.Bool.{Bool, true, false, _&&_}
+use mathlib.Core.Bool.{Bool, true, _&&_}
 use native.Mathlib.Omega.{arith}
-use borrow.Author.Tests.{leb-true, eq-eqb, ne-eqb}
+use borrow.Author.Tests.{leb-true, eq-eqb}
 use lib.Dec.{leb, eqb}
-use lib.ListN.{length, set, getD, take}
+use lib.ListN.{set, getD, take}
 use lib.Seq.{take-set-lt, getD-take}
-use Rattle.number.specs.Read.{pick}
 use Rattle.number.proofs.FieldCodec.{both, and}
 use Rattle.job.specs.declared.Unit.{Unit as VehicleUnit}
 use Rattle.job.specs.declared.Vehicle.{Vehicle}
@@ -18,11 +17,10 @@ use Rattle.job.specs.Empty.{emptyUnit}
 use Rattle.job.specs.Faults.{faultOf, unitFault, unitsFault, vehicleFault, judge}
 use Rattle.job.proofs.FaultLaws.{first-none, or-none, sound-vehicle, vehicle-sound, sound, job-sound}
 use Rattle.path.specs.Stations.{stations}
-use Rattle.path.specs.Laying.{PathRuns, roomFor}
-use Rattle.walk.specs.Tests.{reachesLent}
-use Rattle.reaches.specs.Cells.{Reaches, lengthsOf}
+use Rattle.path.specs.Laying.{PathRuns}
+use Rattle.reaches.specs.Cells.{Reaches}
 use Rattle.run.specs.Run.{runRefusal}
-use Rattle.run.proofs.RunLaws.{all-passed}
+use Rattle.run.proofs.RunLaws.{all-passed, tests-passed}
 use Rattle.bogie.specs.Settings.{unitSet, vehicleSet, jobSet}
 
 -- among values counted by their state, one is replaced by another that has no fault at its place
@@ -68,16 +66,6 @@ kept-job j w f h =
     let s = sound j f in
     job-sound (jobSet j w) (record { vehicle = kept-vehicle (j .vehicle) w (s .vehicle) h; start = s .start; step = s .step; count = s .count; elements = s .elements })
 
--- the number 0 of a run's tests: none was failed
-pub passed : (f m : ℕ) (b c : Bool) → pick (eqb f 0) (pick (b && c) 0 (suc m)) f ≡ 0 → (f ≡ 0) × (b ≡ true) × (c ≡ true)
-passed zero m true true e = (refl, refl, refl)
-passed zero m true false e = absurd (omega arith)
-passed zero m false c e = absurd (omega arith)
-passed (suc f) m b c e = absurd (let z = ne-eqb (suc f) 0 (λ x. omega arith) in let y = rw z at e in omega arith)
-
 pub kept-refusal : (j : Job) (p : PathRuns) (r : Reaches) (w : ℕ) → runRefusal j p r ≡ 0 → wheelbaseAllowed w ≡ true → runRefusal (jobSet j w) p r ≡ 0
-unfolding runRefusal stations
-kept-refusal j p r w e h =
-    let n = length (stations j) in
-    let k = passed (judge j) 20 (roomFor n p) (reachesLent n (lengthsOf r)) e in
-    all-passed (jobSet j w) p r (kept-job j w (k .0) h) (k .1) (k .2)
+unfolding stations
+kept-refusal j p r w e h = let k = tests-passed j p r e in all-passed (jobSet j w) p r (kept-job j w (k .0) h) (k .1) (k .2)

@@ -1,6 +1,6 @@
 -- Clearing the stations forgets whatever a walk had written there, so that each walk starts from the same runs.
-use Prim.Native.Nat.{ℕ, zero, suc, _≤_, _<_}
-use mathlib.Core.Path.{_≡_, refl, sym, _∙_, ap}
+use Prim.Native.Nat.{ℕ, zero, suc, _≤_}
+use mathlib.Core.Path.{_≡_, refl, _∙_, ap}
 use native.Mathlib.Omega.{arith}
 use lib.Seq.{set-set, set-comm}
 use Rattle.job.specs.declared.Vehicle.{Vehicle}
@@ -12,7 +12,7 @@ use Rattle.reaches.specs.Cells.{Reaches, cellAt, storeCell, atStations, cleared
 use Rattle.reaches.specs.Crossing.{crossed, crossedFrom}
 use Rattle.stations.specs.Placing.{callOf}
 use Rattle.stations.specs.Stepping.{pointsAt, ifMade}
-use Rattle.run.specs.Walking.{Course, walkOn, walkToEnd, stepsLeft}
+use Rattle.run.specs.Walking.{Course, walkOn, stepsLeft}
 use Rattle.run.specs.Run.{walkOver}
 
 -- of two cells stored at one station the later stays; at two stations they may change places

@@ -1,5 +1,5 @@
 -- The list of a job: refused before any walk, or from the walks over the path that was laid.
-use Prim.Native.Nat.{ℕ, zero, suc, _+_, _-_, _≤_, _<_}
+use Prim.Native.Nat.{ℕ, zero, suc, _-_, _≤_}
 use mathlib.Core.Path.{_≡_, refl, sym, _∙_, ap, subst, subst₂}
 use mathlib.Core.Bool.{Bool, true, false, _&&_}
 use native.Mathlib.Omega.{arith}
@@ -11,23 +11,21 @@ use Rattle.number.proofs.FieldCodec.{both}
 use Rattle.job.specs.declared.Job.{Job}
 use Rattle.job.specs.Faults.{orFault, firstOf, judge}
 use Rattle.job.proofs.FaultLaws.{first-of, first-none, or-none}
-use Rattle.path.specs.declared.Laid.{Laid}
 use Rattle.path.specs.declared.Laid.the-variants as L
 use Rattle.path.specs.Stations.{stations}
-use Rattle.path.specs.Laying.{PathRuns, roomFor, written, layAnswer, laidRuns, LayEnsures}
+use Rattle.path.specs.Laying.{PathRuns, roomFor, layAnswer, LayEnsures}
 use Rattle.path.proofs.JobLaws.{stations-answered}
 use Rattle.walk.specs.Tests.{pathLent, reachesLent}
 use Rattle.reaches.specs.Cells.{Reaches, lengthsOf}
 use Rattle.stations.specs.Placing.{callOf}
 use Rattle.run.specs.Run.{runRefusal, jobPath}
-use Rattle.run.proofs.RunLaws.{runnable, all-passed}
+use Rattle.run.proofs.RunLaws.{runnable, all-passed, tests-passed}
 use Rattle.bogie.specs.declared.Listed.{Listed}
 use Rattle.bogie.specs.declared.Listed.the-variants as B
 use Rattle.bogie.specs.Settings.{Rail, railAllowed}
 use Rattle.bogie.specs.List.{listRefusal, ListEnsures}
 use Rattle.bogie.specs.Walks.{runsAfter, Walkable, WalkEnsures}
-use Rattle.bogie.proofs.FaultsKept.{passed}
-use Rattle.bogie.proofs.RailLaws.{in-limits}
+use Rattle.bogie.proofs.RailLaws.{neither, in-limits}
 
 pub lent-room : (n : ℕ) (p : PathRuns) → pathLent n p ≡ true → roomFor n p ≡ true
 lent-room n p e = both (leb 1 n && leb n 2001) (roomFor n p) e .1
@@ -44,10 +42,6 @@ module _ (j : Job) (b : Rail) (p : PathRuns) (r : Reaches) where
   module _ (f : judge j ≡ 0) where
     by-room : (x y : Bool) → (x && y) ≡ false → 21 ≡ firstOf (pick (eqb (judge j) 0) (pick (x && y) 0 21) (judge j)) (orFault (railAllowed b) 29 0)
     by-room x y e = let z = eq-eqb (judge j) 0 f in rw (z, e) refl
-
-    neither : (x : Bool) → (x && false) ≡ false
-    neither true = refl
-    neither false = refl
 
     -- a path that is lent has room, since the job's stations are from 1 to 2,001
     pub path-short : 1 ≤ n → n ≤ 2001 → pathLent n p ≡ false → 21 ≡ listRefusal j b p r
@@ -75,10 +69,10 @@ pub record Passed (j : Job) (b : Rail) (p : PathRuns) (r : Reaches) : Type 0 whe
   pub rail : railAllowed b ≡ true
 
 pub all-tests : (j : Job) (b : Rail) (p : PathRuns) (r : Reaches) → listRefusal j b p r ≡ 0 → Passed j b p r
-unfolding listRefusal runRefusal
+unfolding listRefusal
 all-tests j b p r e =
     let a = first-none (runRefusal j p r) (orFault (railAllowed b) 29 0) e in
-    let k = passed (judge j) 20 (roomFor (length (stations j)) p) (reachesLent (length (stations j)) (lengthsOf r)) (a .0) in
+    let k = tests-passed j p r (a .0) in
     record { fault = k .0; room = k .1; lent = k .2; rail = or-none (railAllowed b) 28 0 (a .1) .0 }
 
 -- a refusal writes nothing

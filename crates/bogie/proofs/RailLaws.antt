@@ -1,11 +1,11 @@
 -- The settings of a rail that is allowed: each is a wheelbase, each next one is longer, and so the first and the last tell of all.
-use Prim.Native.Nat.{ℕ, zero, suc, _+_, _-_, _*_, _≤_, _<_}
+use Prim.Native.Nat.{ℕ, zero, suc, _-_, _≤_, _<_}
 use mathlib.Core.Path.{_≡_, refl, sym, _∙_, ap, subst, subst⁻¹}
 use mathlib.Core.Logic.{⊎-elim}
 use mathlib.Core.Bool.{Bool, true, false, _&&_}
 use native.Mathlib.Omega.{arith}
 use native.Mathlib.Nat.{eq-or-lt-of-le, mul-lt-mul-of-pos-right, mul-le-mul-right}
-use borrow.Author.Tests.{leb-true, le-leb, lt-leb, le-ltb}
+use borrow.Author.Tests.{leb-true, le-leb, lt-leb}
 use lib.Dec.{leb}
 use Rattle.number.proofs.FieldCodec.{both, and}
 use Rattle.job.specs.Allowed.{between, wheelbaseAllowed}
@@ -71,7 +71,7 @@ ends-test b n h =
     let last = both (leb 5000 (settingAt b n)) (leb (settingAt b n) 200000) (setting-allowed b (suc n) n t (omega arith)) in
     and (le-leb 5000 (b .lowest) (omega (arith, leb-true 5000 (settingAt b 0) (first .0)))) (last .1))
 
-neither : (a : Bool) → (a && false) ≡ false
+pub neither : (a : Bool) → (a && false) ≡ false
 neither true = refl
 neither false = refl
 

@@ -1,9 +1,8 @@
 -- The walks at the settings: each comes to what a first walk would, and leaves runs of the same lengths.
-use Prim.Native.Nat.{ℕ, zero, suc, _+_, _≤_, _<_}
+use Prim.Native.Nat.{ℕ, zero, suc, _+_, _<_}
 use mathlib.Core.Path.{_≡_, refl, sym, _∙_, ap, subst}
 use mathlib.Core.Bool.{true}
 use native.Mathlib.Numerals.{add-one}
-use native.Mathlib.Omega.{arith}
 use borrow.Author.Tests.{eq-eqb, eqb-true, leb-true}
 use lib.Dec.{leb, eqb}
 use Rattle.number.proofs.FieldCodec.{both}
@@ -11,7 +10,7 @@ use Rattle.job.specs.declared.Vehicle.{Vehicle}
 use Rattle.job.specs.Faults.{vehicleFault}
 use Rattle.job.proofs.FaultLaws.{sound-vehicle}
 use Rattle.path.specs.Laying.{PathRuns}
-use Rattle.walk.specs.Drawn.{Drawn, stationAt}
+use Rattle.walk.specs.Drawn.{stationAt}
 use Rattle.walk.specs.Tests.{lent, vehicleSound}
 use Rattle.walk.specs.Rig.{drawnStart}
 use Rattle.reaches.specs.Cells.{Reaches, clearedCell, cleared}

@@ -3,3 +3,4 @@ pub mod Ranking
 pub mod List
 pub mod Walks
 pub mod Best
+pub mod Worked

@@ -1,6 +1,6 @@
 -- Which settings are listed, and in which order (02, N1): "the best three, or fewer if fewer, of all that reach the last station with a complete station".
 use Prim.Native.Nat.{ℕ, zero, suc}
-use mathlib.Core.Bool.{Bool, true, false, _&&_, _||_}
+use mathlib.Core.Bool.{Bool, _&&_, _||_}
 use mathlib.Core.List.{List, [], _∷_}
 use lib.Dec.{ltb}
 use lib.Signed.{ltZ, leZ}

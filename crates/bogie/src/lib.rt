@@ -13,6 +13,7 @@ ghost use Rattle.bogie.specs.Settings.{railAllowed, vehicleSet};
 ghost use Rattle.bogie.specs.Ranking.{isBefore, entered, runEntered};
 ghost use Rattle.bogie.specs.List.{listRefusal, ListEnsures};
 ghost use Rattle.bogie.specs.Best.{BestSettings};
+ghost use Rattle.bogie.specs.Worked.{WorkedLists};
 ghost use Rattle.bogie.specs.Walks.{LastUnit, Walkable, WalkEnsures};
 
 // A setting: the last wheelbase, and the widest width of the walk with it.
@@ -263,4 +264,9 @@ pub fn list_settings(
 // Claim: the settings listed are the best of all that reach the last station with a complete station.
 pub fn best_settings()
     ensures { λ _. ⌜ BestSettings ⌝ }
+{}
+
+// Claim: the lists of the worked job at some settings, by computing.
+pub fn worked_lists()
+    ensures { λ _. ⌜ WorkedLists ⌝ }
 {}

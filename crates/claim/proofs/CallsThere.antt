@@ -1,14 +1,11 @@
 -- A run that is not refused has its calls: the path laid, the vehicle placed, and step calls until one is refused.
 use Prim.Native.Nat.{ℕ, zero, suc, _+_, _-_, _≤_, _<_}
 use mathlib.Core.Path.{_≡_, refl, sym, _∙_}
-use mathlib.Core.Bool.{Bool, true, false, _&&_}
+use mathlib.Core.Bool.{true}
 use mathlib.Core.List.{List, [], _∷_}
 use native.Mathlib.Omega.{arith}
 use native.Mathlib.Decide.{decLt}
-use borrow.Author.Tests.{eqb-true, eq-eqb}
-use lib.Dec.{eqb}
 use lib.ListN.{length}
-use Rattle.number.specs.Read.{pick}
 use Rattle.job.specs.Faults.{judge}
 use Rattle.path.specs.declared.Laid.the-variants as L
 use Rattle.path.specs.Stations.{stations}
@@ -30,7 +27,7 @@ use Rattle.run.specs.Walking.{Going}
 use Rattle.run.specs.Run.{runRefusal, ranAnswer, Runnable}
 use Rattle.run.proofs.WalkingLaws.{one-on, still-going}
 use Rattle.run.proofs.OverLaws.{placed-going}
-use Rattle.run.proofs.RunLaws.{runnable}
+use Rattle.run.proofs.RunLaws.{runnable, tests-passed}
 use Rattle.claim.specs.DemandThree.{Turn, Chain}
 use Rattle.claim.specs.WholeRun.{Handed, UntilRefused, Run, Ensured}
 use Rattle.claim.specs.PremisesMet.{RunCalls}
@@ -95,19 +92,12 @@ pub no-refusal : (a b : Ran) (m : ℕ) → a ≡ ranAnswer m b → ((k : ℕ) �
 no-refusal a b zero e f = refl
 no-refusal a b (suc m) e f = absurd (f (suc m) e)
 
-passed-by : (a b c : Bool) (f : ℕ) → eqb f 0 ≡ a → pick a (pick (b && c) 0 21) f ≡ 0 → (f ≡ 0) × (b ≡ true) × (c ≡ true)
-passed-by true true true f t e = (eqb-true f 0 t, refl, refl)
-passed-by true true false f t e = absurd (omega arith)
-passed-by true false c f t e = absurd (omega arith)
-passed-by false b c f t e = absurd (let z : true ≡ false = sym (eq-eqb f 0 e) ∙ t in let y : _≡_ {A = ℕ} 0 1 = cc in omega arith)
-
 module _ (x : Run) where
   abbrev n : ℕ
   n = length (stations (x .job))
 
   run-passed : runRefusal (x .job) (x .path) (x .reaches) ≡ 0 → (judge (x .job) ≡ 0) × (roomFor n (x .path) ≡ true) × (reachesLent n (lengthsOf (x .reaches)) ≡ true)
-  unfolding runRefusal
-  run-passed e = passed-by (eqb (judge (x .job)) 0) (roomFor n (x .path)) (reachesLent n (lengthsOf (x .reaches))) (judge (x .job)) refl e
+  run-passed e = tests-passed (x .job) (x .path) (x .reaches) e
 
   abbrev laid : PathRuns
   laid = written (stations (x .job)) (x .path)

@@ -3,7 +3,7 @@ use Prim.Native.Nat.{ℕ, zero, suc, _+_, _≤_, _<_}
 use mathlib.Core.Path.{_≡_, refl, sym, _∙_, ap, subst, subst₂}
 use mathlib.Core.Bool.{Bool, true, false, _&&_}
 use native.Mathlib.Omega.{arith}
-use borrow.Author.Tests.{eq-eqb, ne-eqb, le-leb}
+use borrow.Author.Tests.{eq-eqb, ne-eqb, eqb-true, le-leb}
 use lib.Dec.{leb, eqb}
 use lib.ListN.{length, take}
 use Rattle.number.specs.Read.{pick}
@@ -81,6 +81,17 @@ module _ (j : Job) (p : PathRuns) (r : Reaches) where
 pub all-passed : (j : Job) (p : PathRuns) (r : Reaches) → judge j ≡ 0 → roomFor (length (stations j)) p ≡ true → reachesLent (length (stations j)) (lengthsOf r) ≡ true → runRefusal j p r ≡ 0
 unfolding runRefusal
 all-passed j p r a b d = let z = eq-eqb (judge j) 0 a in rw (z, b, d) refl
+
+passed-by : (a b c : Bool) (f : ℕ) → eqb f 0 ≡ a → pick a (pick (b && c) 0 21) f ≡ 0 → (f ≡ 0) × (b ≡ true) × (c ≡ true)
+passed-by true true true f t e = (eqb-true f 0 t, refl, refl)
+passed-by true true false f t e = absurd (omega arith)
+passed-by true false c f t e = absurd (omega arith)
+passed-by false b c f t e = absurd (let z : true ≡ false = sym (eq-eqb f 0 e) ∙ t in let y : _≡_ {A = ℕ} 0 1 = cc in omega arith)
+
+-- and the other way round
+pub tests-passed : (j : Job) (p : PathRuns) (r : Reaches) → runRefusal j p r ≡ 0 → (judge j ≡ 0) × (roomFor (length (stations j)) p ≡ true) × (reachesLent (length (stations j)) (lengthsOf r) ≡ true)
+unfolding runRefusal
+tests-passed j p r e = let n = length (stations j) in passed-by (eqb (judge j) 0) (roomFor n p) (reachesLent n (lengthsOf r)) (judge j) refl e
 
 -- the path that was laid is sound, and the vehicle was tested with its job
 module _ (j : Job) (p : PathRuns) (m : ℕ) (q : PathRuns) (t : LayEnsures j p (L.Stations m) q) where

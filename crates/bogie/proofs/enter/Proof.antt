@@ -1,89 +1,67 @@
-use mathlib.Core.Path.{_≡_, sym, _∙_}
-use Rattle.bogie.proofs.EnterLaws.{only-one, one-first, one-second, two-first, two-second, two-third, three-first, three-second, three-third, three-still}
+-- `bogie::enter` meets its contract, by the list and by the settings that the new one comes before.
+use mathlib.Core.Path.{sym, _∙_}
 use borrow.Author.Needs.{needs}
+use Rattle.bogie.proofs.EnterLaws.{only-one, one-first, one-second, two-first, two-second, two-third, three-first, three-second, three-third, three-still}
 use Rattle.bogie.proofs.enter.Statement.{statement}
 use Rattle.bogie.proofs.enter.Tie as tie
-use Rattle.bogie.proofs.enter.Reads as reads
-use Rattle.bogie.proofs.enter.Lts as lts
-use Rattle.bogie.proofs.is_before.Reads as is-before-reads
 
--- src/lib.rt:59:21
 enum-known-l : tie.Need-enum-known-l
 enum-known-l c = search needs
 
--- src/lib.rt:60:16
 is-before-requires : tie.Need-is-before-requires
 is-before-requires c κs = search needs
 
--- src/lib.rt:61:17
 returns : tie.Need-returns
 returns c = one-first _ _ _ (c .before .before .before .l .given .1) (sym (c .before .is-before .ensures) ∙ c .if1 .taken)
 
--- src/lib.rt:65:21
 enum-known-l-2 : tie.Need-enum-known-l-2
 enum-known-l-2 c = search needs
 
--- src/lib.rt:66:16
 is-before-requires-2 : tie.Need-is-before-requires-2
 is-before-requires-2 c κs = search needs
 
--- src/lib.rt:67:17
 returns-2 : tie.Need-returns-2
 returns-2 c = two-first _ _ _ _ (c .before .before .before .l2 .given .1) (sym (c .before .is-before2 .ensures) ∙ c .if2 .taken)
 
--- src/lib.rt:69:16
 is-before-requires-3 : tie.Need-is-before-requires-3
 is-before-requires-3 c κs = search needs
 
--- src/lib.rt:70:17
 returns-3 : tie.Need-returns-3
 returns-3 c = let b = c .before .before .before in two-second _ _ _ _ (b .before .before .l2 .given .1) (sym (b .is-before2 .ensures) ∙ c .before .before .if2 .left) (sym (c .before .is-before3 .ensures) ∙ c .if3 .taken)
 
--- src/lib.rt:74:23
 enum-known-l-3 : tie.Need-enum-known-l-3
 enum-known-l-3 c = search needs
 
--- src/lib.rt:75:16
 is-before-requires-4 : tie.Need-is-before-requires-4
 is-before-requires-4 c κs = search needs
 
--- src/lib.rt:76:17
 returns-4 : tie.Need-returns-4
 returns-4 c = three-first _ _ _ _ _ (c .before .before .before .l3 .given .1) (sym (c .before .is-before4 .ensures) ∙ c .if4 .taken)
 
--- src/lib.rt:78:16
 is-before-requires-5 : tie.Need-is-before-requires-5
 is-before-requires-5 c κs = search needs
 
--- src/lib.rt:79:17
 returns-5 : tie.Need-returns-5
 returns-5 c = let b = c .before .before .before in three-second _ _ _ _ _ (b .before .before .l3 .given .1) (sym (b .is-before4 .ensures) ∙ c .before .before .if4 .left) (sym (c .before .is-before5 .ensures) ∙ c .if5 .taken)
 
--- src/lib.rt:81:16
 is-before-requires-6 : tie.Need-is-before-requires-6
 is-before-requires-6 c κs = search needs
 
--- src/lib.rt:82:17
 returns-6 : tie.Need-returns-6
 returns-6 c = let b = c .before .before .before in let a = b .before .before in three-third _ _ _ _ _ (a .before .before .l3 .given .1) (sym (a .is-before4 .ensures) ∙ b .before .if4 .left) (sym (b .is-before5 .ensures) ∙ c .before .before .if5 .left) (sym (c .before .is-before6 .ensures) ∙ c .if6 .taken)
 
--- src/lib.rt:86:31
 enum-told : tie.Need-enum-told
 enum-told c = search needs
 
--- src/lib.rt:55:1
 returns-7 : tie.Need-returns-7
 returns-7 c = one-second _ _ _ (c .before .before .before .l .given .1) (sym (c .before .is-before .ensures) ∙ c .if1 .left)
 
--- src/lib.rt:55:1
 returns-8 : tie.Need-returns-8
 returns-8 c = let b = c .before .before .before in two-third _ _ _ _ (b .before .before .l2 .given .1) (sym (b .is-before2 .ensures) ∙ c .before .before .if2 .left) (sym (c .before .is-before3 .ensures) ∙ c .if3 .left)
 
--- src/lib.rt:55:1
 returns-9 : tie.Need-returns-9
 returns-9 c = let b = c .before .before .before in let a = b .before .before in three-still _ _ _ _ _ (a .before .before .l3 .given .1) (sym (a .is-before4 .ensures) ∙ b .before .if4 .left) (sym (b .is-before5 .ensures) ∙ c .before .before .if5 .left) (sym (c .before .is-before6 .ensures) ∙ c .if6 .left)
 
--- src/lib.rt:55:1
 returns-10 : tie.Need-returns-10
 returns-10 c = only-one _ _ _ (c .enum-told .given .1)
 

@@ -1,48 +1,38 @@
+-- `bogie::enter_run` meets its contract: a finished walk with a complete station enters.
 use mathlib.Core.Path.{_≡_, sym, _∙_, ap}
+use borrow.Author.Needs.{needs}
+use Rattle.exact.proofs.Machine.{reread}
 use Rattle.reaches.specs.declared.Best.{Best}
 use Rattle.run.specs.declared.Ran.{Ran}
 use Rattle.bogie.specs.Ranking.{entered, runEntered, widestEntered}
-use Rattle.exact.proofs.Machine.{reread}
-use borrow.Author.Needs.{needs}
 use Rattle.bogie.proofs.enter_run.Statement.{statement}
 use Rattle.bogie.proofs.enter_run.Tie as tie
-use Rattle.bogie.proofs.enter_run.Reads as reads
-use Rattle.bogie.proofs.enter_run.Lts as lts
-use Rattle.bogie.proofs.enter.Reads as enter-reads
 
 -- a width is read back from its bits as it was
 width-alone : (c : tie.After-struct-told) → reread (c .before .before .widest .given .0 .0 .width) ≡ c .before .before .widest .given .0 .0 .width
 width-alone c = search needs
 
--- src/lib.rt:95:23
 enum-known-ran : tie.Need-enum-known-ran
 enum-known-ran c = search needs
 
--- src/lib.rt:98:34
 enum-told : tie.Need-enum-told
 enum-told c = search needs
 
--- src/lib.rt:99:29
 enum-known-widest : tie.Need-enum-known-widest
 enum-known-widest c = search needs
 
--- src/lib.rt:101:21
 enter-requires : tie.Need-enter-requires
 enter-requires c κs = search needs
 
--- src/lib.rt:105:34
 enum-told-2 : tie.Need-enum-told-2
 enum-told-2 c = search needs
 
--- src/lib.rt:106:28
 enum-told-3 : tie.Need-enum-told-3
 enum-told-3 c = search needs
 
--- src/lib.rt:91:1
 returns : tie.Need-returns
 returns c = search needs
 
--- src/lib.rt:91:1
 returns-2 : tie.Need-returns-2
 returns-2 c =
     let x = c .before .before .before in
@@ -53,11 +43,9 @@ returns-2 c =
     ∙ (λ i. entered (record { wheelbase = s .wheelbase; width = w i }) (s .l))
     ∙ sym (ap (λ (a : Ran). runEntered (s .wheelbase) a (s .l)) (y .ran .given .1) ∙ ap (λ (b : Best). widestEntered (s .wheelbase) b (s .l)) (x .widest .given .1))
 
--- src/lib.rt:91:1
 returns-3 : tie.Need-returns-3
 returns-3 c = search needs
 
--- src/lib.rt:91:1
 returns-4 : tie.Need-returns-4
 returns-4 c = search needs
 

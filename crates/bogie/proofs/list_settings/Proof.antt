@@ -1,5 +1,4 @@
 -- `bogie::list_settings` meets its contract: refused, or laid and walked.
-use Prim.Native.Nat.{ℕ}
 use mathlib.Core.Path.{_≡_, sym, _∙_, subst}
 use borrow.Author.Needs.{needs}
 use denote.Ref.{now}

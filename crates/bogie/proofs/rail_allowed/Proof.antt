@@ -1,14 +1,11 @@
-use Prim.Native.Nat.{ℕ, _-_, _*_, _≤_}
+-- `bogie::rail_allowed` meets its contract, limit by limit.
+use Prim.Native.Nat.{_-_, _*_, _≤_}
 use native.Mathlib.Nat.{mul-le-mul}
 use native.Mathlib.Omega.{arith}
-use borrow.Author.Tests.{lt-leb}
-use Rattle.bogie.specs.Settings.{Rail}
-use Rattle.bogie.proofs.RailLaws.{no-pitch, none-settings, too-many, rail-test}
 use borrow.Author.Needs.{needs}
+use Rattle.bogie.proofs.RailLaws.{no-pitch, none-settings, too-many, rail-test}
 use Rattle.bogie.proofs.rail_allowed.Statement.{statement}
 use Rattle.bogie.proofs.rail_allowed.Tie as tie
-use Rattle.bogie.proofs.rail_allowed.Reads as reads
-use Rattle.bogie.proofs.rail_allowed.Lts as lts
 
 -- past the three tests
 module _ (c : tie.Else3) where

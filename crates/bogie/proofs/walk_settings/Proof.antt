@@ -1,30 +1,21 @@
-use Rattle.walk.specs.Tests.{lent}
-use Rattle.run.specs.declared.Ran.{Ran}
-use Rattle.job.specs.declared.Vehicle.{Vehicle}
-use Rattle.bogie.proofs.RailLaws.{in-limits}
-use Rattle.bogie.proofs.WalksLaws.{after-lengths, runs-lengths, next-runnable, next-runs, next-listed, none-listed, last-unit, all-walked}
-use Prim.Native.Nat.{ℕ, zero, suc, _+_, _-_, _*_, _≤_, _<_}
-use mathlib.Core.Path.{_≡_, refl, sym, _∙_, ap, subst}
-use mathlib.Core.Bool.{true}
+-- `bogie::walk_settings` meets its contract: after each turn the list and the runs are those of the settings walked so far.
+use Prim.Native.Nat.{ℕ, _-_, _≤_}
+use mathlib.Core.Path.{_≡_, refl}
 use native.Mathlib.Omega.{arith}
 use borrow.Author.Needs.{needs}
 use denote.Ref.{now}
+use Rattle.job.specs.declared.Vehicle.{Vehicle}
 use Rattle.path.specs.Laying.{PathRuns, pathRuns}
 use Rattle.reaches.specs.Cells.{Reaches, reachRuns}
 use Rattle.reaches.proofs.CellLaws.{SameLengths}
-use Rattle.stations.specs.Placing.{callOf}
-use Rattle.bogie.specs.declared.Listed.{Listed}
 use Rattle.run.specs.Run.{OverEnsures}
 use Rattle.bogie.specs.Settings.{Rail, settingAt, vehicleSet}
 use Rattle.bogie.specs.Ranking.{fitting, ranked, listedOf}
-use Rattle.bogie.specs.Walks.{overAt, runsAfter, Walkable, WalkEnsures}
+use Rattle.bogie.specs.Walks.{overAt, runsAfter}
+use Rattle.bogie.proofs.RailLaws.{in-limits}
+use Rattle.bogie.proofs.WalksLaws.{runs-lengths, next-runnable, next-runs, next-listed, none-listed, last-unit, all-walked}
 use Rattle.bogie.proofs.walk_settings.Statement.{statement}
 use Rattle.bogie.proofs.walk_settings.Tie as tie
-use Rattle.bogie.proofs.walk_settings.Reads as reads
-use Rattle.bogie.proofs.walk_settings.Lts as lts
-use Rattle.bogie.proofs.enter_run.Reads as enter-run-reads
-use Rattle.bogie.proofs.vehicle_set.Reads as vehicle-set-reads
-use Rattle.run.proofs.run_over.Reads as run-over-reads
 
 abbrev Inv-loop : tie.InvT-loop
 Inv-loop v lowest pitch number asked xs ys gxs gys left₀ right₀ marks₀ listed₀ i₀ left right marks listed i =

@@ -1,0 +1,37 @@
+-- The worked job of 01, "Rigs to try", at some settings: on a straight every wheelbase has the same width, and above 50,000 no station of this one is complete.
+use mathlib.Core.Path.{_≡_}
+use mathlib.Core.List.{List}
+use lib.ListN.{replicate}
+use lib.IntN.{ℤ, pos}
+use Rattle.path.specs.Laying.{PathRuns, pathRuns}
+use Rattle.reaches.specs.Cells.{Reaches, reachRuns}
+use Rattle.run.specs.Worked.{workedJob}
+use Rattle.bogie.specs.declared.Listed.{Listed}
+use Rattle.bogie.specs.declared.Listed.the-variants.{Two, Three, Refused}
+use Rattle.bogie.specs.Settings.{Rail}
+use Rattle.bogie.specs.List.{ListEnsures}
+
+-- runs of zeros, one entry a station
+abbrev pub zeros : List ℤ
+zeros = replicate 14 (pos 0)
+
+abbrev pub unlaid : PathRuns
+unlaid = pathRuns zeros zeros zeros zeros
+
+abbrev pub uncleared : Reaches
+uncleared = reachRuns zeros zeros (replicate 14 0)
+
+-- every call with these settings answers this
+abbrev pub Lists : Rail → Listed → Type 0
+Lists b wanted = (answer : Listed) (p' : PathRuns) (r' : Reaches) → ListEnsures workedJob b unlaid uncleared answer p' r' → answer ≡ wanted
+
+-- the claim
+pub record WorkedLists : Type 0 where
+  -- 20,000 to 60,000: five settings, of which four have the width 24,000, and the three shortest are listed
+  pub three : Lists (record { lowest = 20000; pitch = 10000; number = 5 }) (Three (record { wheelbase = 20000; width = pos 24000 }) (record { wheelbase = 30000; width = pos 24000 }) (record { wheelbase = 40000; width = pos 24000 }))
+  -- 40,000 to 60,000: two are listed
+  pub two : Lists (record { lowest = 40000; pitch = 10000; number = 3 }) (Two (record { wheelbase = 40000; width = pos 24000 }) (record { wheelbase = 50000; width = pos 24000 }))
+  -- 50,001 alone: its walk comes to the last station, but none to list
+  pub none : Lists (record { lowest = 50001; pitch = 1; number = 1 }) (Refused 30)
+  -- 200,000 and one tick more
+  pub outside : Lists (record { lowest = 200000; pitch = 1; number = 2 }) (Refused 29)
