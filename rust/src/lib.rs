@@ -7,6 +7,7 @@ pub mod product;
 pub mod record;
 pub mod reference;
 pub mod runs;
+pub mod settings;
 
 use std::fmt;
 
@@ -35,6 +36,30 @@ impl fmt::Display for Swept {
                 }
                 writeln!(f, "front {} {}", front.0, front.1)
             }
+        }
+    }
+}
+
+/// What the list of a job's best settings comes to.
+#[derive(Clone, Debug, PartialEq, Eq)]
+pub enum Listing {
+    /// Wheelbase and widest width of one to three settings, best first.
+    Listed(Vec<(u32, i64)>),
+    /// The job is turned down, at a byte of the input.
+    Refused { number: u32, at: usize },
+    /// 21, 29 or 30, which no byte of the input stands for.
+    Unlisted { number: u32 },
+}
+
+impl fmt::Display for Listing {
+    /// The text that the program `settings` prints.
+    fn fmt(&self, f: &mut fmt::Formatter<'_>) -> fmt::Result {
+        match self {
+            Listing::Listed(best) => {
+                best.iter().try_for_each(|(wheelbase, width)| writeln!(f, "setting {wheelbase} {width}"))
+            }
+            Listing::Refused { number, at } => writeln!(f, "refused {number} at {at}"),
+            Listing::Unlisted { number } => writeln!(f, "refused {number}"),
         }
     }
 }

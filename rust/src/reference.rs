@@ -63,7 +63,7 @@ fn nearest(dividend: i64, divisor: i64) -> i64 {
 }
 
 #[derive(Clone, Copy)]
-struct Station {
+pub(crate) struct Station {
     position: Vector,
     heading: Vector,
 }
@@ -80,7 +80,7 @@ fn path_step(g: Vector, s: i64, r: i64) -> (Vector, Vector) {
     (turned, ((g + turned) * s).nearest(2 * NOMINAL))
 }
 
-fn lay(job: &Job) -> Vec<Station> {
+pub(crate) fn lay(job: &Job) -> Vec<Station> {
     let position = Vector { x: job.start.0, y: job.start.1 };
     let heading = Vector { x: job.heading.0, y: job.heading.1 };
     let mut last = Station { position, heading };
@@ -155,7 +155,7 @@ fn points(vehicle: &Vehicle, d: &[Vector], front: Vector) -> [Vector; 6] {
 
 /// What a station has kept of the points that crossed it.
 #[derive(Clone, Copy)]
-struct Cell {
+pub(crate) struct Cell {
     left: i64,
     right: i64,
     mark: u8,
@@ -199,7 +199,7 @@ fn widest(cells: &[Cell]) -> Option<(u32, i64, i64, i64)> {
 }
 
 /// What the walk of a job over its path comes to, and what the stations have kept by then.
-fn walked(job: &Job, path: &[Station]) -> (Swept, Vec<Cell>) {
+pub(crate) fn walked(job: &Job, path: &[Station]) -> (Swept, Vec<Cell>) {
     let vehicle = &job.vehicle;
     let mut cells = vec![CLEARED; path.len()];
     let mut d: Vec<Vector> =
@@ -244,6 +244,12 @@ pub fn run(bytes: &[u8], runs: &mut Runs) -> Swept {
         return Swept::Refused { number: 21, at: 0 };
     }
     let (swept, cells) = walked(&job, &path);
+    leave(&path, &cells, runs);
+    swept
+}
+
+/// Writes path and cells into the runs, whose entries past the last station stay.
+pub(crate) fn leave(path: &[Station], cells: &[Cell], runs: &mut Runs) {
     for (k, (station, cell)) in path.iter().zip(cells).enumerate() {
         runs.xs[k] = station.position.x as i32;
         runs.ys[k] = station.position.y as i32;
@@ -253,7 +259,6 @@ pub fn run(bytes: &[u8], runs: &mut Runs) -> Swept {
         runs.right[k] = cell.right as i32;
         runs.marks[k] = cell.mark;
     }
-    swept
 }
 
 /// The path turn called by itself: heading x, y and move x, y, or 6, 7 or 8.
