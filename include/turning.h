@@ -20,12 +20,14 @@ extern "C" {
 /* How many entries an answer run must have at least. */
 enum {
     TURNING_SWEEP_ENTRIES = 8,
+    TURNING_SETTINGS_ENTRIES = 7,
     TURNING_PATH_TURN_ENTRIES = 4,
     TURNING_UNIT_TURN_ENTRIES = 2
 };
 
-/* What turning_sweep and turning_run answer, taken apart: the refusal's number (0 for none); beside 1 to
- * 10 the byte where the field starts; beside 22 and 23 the unit and the step, both counted from 1. */
+/* What turning_sweep, turning_run and turning_settings answer, taken apart: the refusal's number (0 for
+ * none); beside 1 to 10 the byte where the field starts; beside 22 and 23, which turning_settings never
+ * answers, the unit and the step, both counted from 1. */
 #define TURNING_NUMBER(answered) ((uint32_t)(answered) & 255u)
 #define TURNING_BYTE(answered) ((uint32_t)(answered) >> 8)
 #define TURNING_UNIT(answered) (((uint32_t)(answered) >> 8) & 255u)
@@ -53,6 +55,28 @@ uint32_t turning_run(const uint8_t *job, size_t job_len,
                      int32_t *gxs, size_t gxs_len, int32_t *gys, size_t gys_len,
                      int32_t *left, size_t left_len, int32_t *right, size_t right_len,
                      uint8_t *marks, size_t marks_len, int64_t *answer, size_t answer_len);
+
+/* Walks the job with its last unit's wheelbase replaced, from a new placement at each of 1 to 32 settings:
+ * the lowest, then one pitch (at least 1) more for each next, all from 5,000 to 200,000. Lists the best three,
+ * or fewer if fewer, of those that reach the last station with a complete station: the least widest width
+ * first, the shorter wheelbase first among equals. The seven runs are those of turning_run.
+ *   0                                   listed: how many, 1 to 3; wheelbase and widest width of each, best
+ *                                       first; zeros after, 7 entries in all. The path stands in its four
+ *                                       runs, the other three are as the last setting's walk left them,
+ *                                       as far as it went
+ *   30                                  no setting is there to list: the seven runs are as for 0, the answer
+ *                                       run stays
+ *   1 to 10 + 256 * byte                the job is refused: nothing is written
+ *   21                                  the answer run has fewer than 7 entries, or one of the seven fewer
+ *                                       than the job has stations: nothing is written
+ *   29                                  a pitch of 0, a number not 1 to 32, or a setting outside the limits,
+ *                                       tested after the others: nothing is written */
+uint32_t turning_settings(const uint8_t *job, size_t job_len,
+                          uint32_t lowest, uint32_t pitch, uint32_t number,
+                          int32_t *xs, size_t xs_len, int32_t *ys, size_t ys_len,
+                          int32_t *gxs, size_t gxs_len, int32_t *gys, size_t gys_len,
+                          int32_t *left, size_t left_len, int32_t *right, size_t right_len,
+                          uint8_t *marks, size_t marks_len, int64_t *answer, size_t answer_len);
 
 /* Turns the path heading (gx, gy) by a step of s ticks on the radius r: 0 straight, positive right.
  *   0         heading x, heading y, move x, move y

@@ -1,7 +1,7 @@
 //! The proved static library behind safe functions. `include/turning.h` says what each call answers.
 
 use crate::runs::Runs;
-use crate::Swept;
+use crate::{Listing, Swept};
 
 mod linked {
     extern "C" {
@@ -9,6 +9,29 @@ mod linked {
         pub fn turning_run(
             job: *const u8,
             job_len: usize,
+            xs: *mut i32,
+            xs_len: usize,
+            ys: *mut i32,
+            ys_len: usize,
+            gxs: *mut i32,
+            gxs_len: usize,
+            gys: *mut i32,
+            gys_len: usize,
+            left: *mut i32,
+            left_len: usize,
+            right: *mut i32,
+            right_len: usize,
+            marks: *mut u8,
+            marks_len: usize,
+            answer: *mut i64,
+            answer_len: usize,
+        ) -> u32;
+        pub fn turning_settings(
+            job: *const u8,
+            job_len: usize,
+            lowest: u32,
+            pitch: u32,
+            number: u32,
             xs: *mut i32,
             xs_len: usize,
             ys: *mut i32,
@@ -53,6 +76,37 @@ pub fn run_into(job: &[u8], runs: &mut Runs, answer: &mut [i64]) -> u32 {
         linked::turning_run(
             job.as_ptr(),
             job.len(),
+            runs.xs.as_mut_ptr(),
+            runs.xs.len(),
+            runs.ys.as_mut_ptr(),
+            runs.ys.len(),
+            runs.gxs.as_mut_ptr(),
+            runs.gxs.len(),
+            runs.gys.as_mut_ptr(),
+            runs.gys.len(),
+            runs.left.as_mut_ptr(),
+            runs.left.len(),
+            runs.right.as_mut_ptr(),
+            runs.right.len(),
+            runs.marks.as_mut_ptr(),
+            runs.marks.len(),
+            answer.as_mut_ptr(),
+            answer.len(),
+        )
+    }
+}
+
+/// The number answered; `answer` needs 7 entries, and each run one for every station of the job, else 21
+/// is answered and nothing written. With 0 and with 30 the runs hold the last setting's walk.
+pub fn settings_into(job: &[u8], lowest: u32, pitch: u32, number: u32, runs: &mut Runs, answer: &mut [i64]) -> u32 {
+    // SAFETY: all runs are borrowed for the call, with their own lengths, and cannot overlap.
+    unsafe {
+        linked::turning_settings(
+            job.as_ptr(),
+            job.len(),
+            lowest,
+            pitch,
+            number,
             runs.xs.as_mut_ptr(),
             runs.xs.len(),
             runs.ys.as_mut_ptr(),
@@ -129,6 +183,21 @@ pub fn sweep(job: &[u8]) -> Swept {
 pub fn run(job: &[u8], runs: &mut Runs) -> Swept {
     let mut answer = [0; 8];
     Told::of(run_into(job, runs, &mut answer)).with(answer)
+}
+
+/// The best three of 1 to 32 last wheelbases, `lowest` and each next one `pitch` longer, on lent runs, which
+/// hold the last setting's walk afterwards where it lists some or none fits (30).
+pub fn settings(job: &[u8], lowest: u32, pitch: u32, number: u32, runs: &mut Runs) -> Listing {
+    let mut answer = [0; 7];
+    let answered = settings_into(job, lowest, pitch, number, runs, &mut answer);
+    match answered & 255 {
+        0 => {
+            let best = answer[1..].chunks(2).take(answer[0] as usize);
+            Listing::Listed(best.map(|pair| (pair[0] as u32, pair[1])).collect())
+        }
+        number @ 1..=10 => Listing::Refused { number, at: answered as usize >> 8 },
+        _ => Listing::Unlisted { number: answered },
+    }
 }
 
 /// The path turn: heading x, y and move x, y, or 6, 7 or 8.
