@@ -50,7 +50,7 @@ fn signed(value: i64, ends: &[i64]) -> Field {
     Field { value, signed: true, ends: ends.to_vec() }
 }
 
-fn encode(value: u64) -> Vec<u8> {
+pub(crate) fn encode(value: u64) -> Vec<u8> {
     let mut groups = Vec::new();
     let mut rest = value;
     while rest >= 0x80 {
@@ -197,6 +197,11 @@ fn noise(chance: &mut Chance) -> Vec<u8> {
         *first &= 0x07;
     }
     bytes
+}
+
+/// The bytes of a job that is refused for over 2,000 steps at most.
+pub(crate) fn sound_job(chance: &mut Chance, steps: i64) -> Vec<u8> {
+    job_bytes(&sound_fields(chance, steps))
 }
 
 /// The bytes of one job: about half of them are sound.

@@ -2,6 +2,7 @@
 //! Rust reference, written from the paper alone, to compare it with.
 
 pub mod jobs;
+pub mod lists;
 #[cfg(feature = "product")]
 pub mod product;
 pub mod record;

@@ -1,5 +1,7 @@
 //! The seven runs that a caller lends: one entry a station.
 
+use crate::jobs::Chance;
+
 /// The path's four runs, the least and greatest reach at each station, and its mark, a bit a point.
 #[derive(Clone, Debug, PartialEq, Eq)]
 pub struct Runs {
@@ -17,6 +19,13 @@ impl Runs {
     pub fn zeros(entries: usize) -> Runs {
         let run = || vec![0; entries];
         Runs { xs: run(), ys: run(), gxs: run(), gys: run(), left: run(), right: run(), marks: vec![0; entries] }
+    }
+
+    /// Runs of these lengths, each entry by chance, to see what is written.
+    pub fn by_chance(chance: &mut Chance, lengths: [usize; 7]) -> Runs {
+        let mut run = |length: usize| (0..length).map(|_| chance.word() as i32).collect::<Vec<i32>>();
+        let [xs, ys, gxs, gys, left, right, marks] = lengths.map(&mut run);
+        Runs { xs, ys, gxs, gys, left, right, marks: marks.into_iter().map(|entry| entry as u8).collect() }
     }
 
     /// The fewest entries that one of them has.

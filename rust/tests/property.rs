@@ -66,13 +66,6 @@ fn check_run(job: &[u8], lent: &Runs, extra: usize) -> Swept {
     expected
 }
 
-/// Runs of these lengths, each entry by chance.
-fn some_runs(chance: &mut Chance, lengths: [usize; 7]) -> Runs {
-    let mut run = |length: usize| (0..length).map(|_| chance.word() as i32).collect::<Vec<i32>>();
-    let [xs, ys, gxs, gys, left, right, marks] = lengths.map(&mut run);
-    Runs { xs, ys, gxs, gys, left, right, marks: marks.into_iter().map(|entry| entry as u8).collect() }
-}
-
 #[test]
 fn jobs_are_answered_as_by_the_reference() {
     let count = setting("TURNING_JOBS", 20_000);
@@ -99,7 +92,7 @@ fn lent_runs_are_left_as_by_the_reference() {
     let count = setting("TURNING_JOBS", 20_000);
     let mut chance = Chance::new(setting("TURNING_SEED", 1) + 7);
     let mut kinds: BTreeMap<String, u64> = BTreeMap::new();
-    let most = some_runs(&mut chance, [2_003; 7]);
+    let most = Runs::by_chance(&mut chance, [2_003; 7]);
     check_run(&heaviest(), &most, 1);
     for round in 0..count / 4 {
         let job = some_job(&mut chance);
@@ -108,11 +101,11 @@ fn lent_runs_are_left_as_by_the_reference() {
         if chance.one_in(4) && stations > 0 {
             let which = chance.below(7) as usize;
             lengths[which] = stations - 1 - chance.below(stations as u64) as usize;
-            let lent = some_runs(&mut chance, lengths);
+            let lent = Runs::by_chance(&mut chance, lengths);
             assert_eq!(check_run(&job, &lent, 0), Swept::Refused { number: 21, at: 0 });
             *kinds.entry(format!("refused 21, run {which}")).or_default() += 1;
         } else {
-            let lent = some_runs(&mut chance, lengths);
+            let lent = Runs::by_chance(&mut chance, lengths);
             *kinds.entry(kind_of(&check_run(&job, &lent, round as usize % 4))).or_default() += 1;
         }
     }
@@ -132,7 +125,7 @@ fn short_answer_runs_are_refused() {
             assert_eq!(answer, vec![UNWRITTEN; length]);
             // Tested before the job and before the other runs, which stay.
             for entries in [0, 2_001] {
-                let lent = some_runs(&mut chance, [entries; 7]);
+                let lent = Runs::by_chance(&mut chance, [entries; 7]);
                 let mut runs = lent.clone();
                 assert_eq!(product::run_into(&job, &mut runs, &mut answer), 21);
                 assert_eq!((answer, runs), (vec![UNWRITTEN; length], lent));
