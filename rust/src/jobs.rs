@@ -50,7 +50,8 @@ fn signed(value: i64, ends: &[i64]) -> Field {
     Field { value, signed: true, ends: ends.to_vec() }
 }
 
-pub(crate) fn encode(value: u64) -> Vec<u8> {
+/// A number in seven-bit groups, lowest first.
+pub fn encode(value: u64) -> Vec<u8> {
     let mut groups = Vec::new();
     let mut rest = value;
     while rest >= 0x80 {

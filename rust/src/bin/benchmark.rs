@@ -1,14 +1,36 @@
-//! The heaviest job through the product and the reference, one after the other in one run.
-//! `TURNING_REPEATS` says how often (101 where it is not set).
+//! The heaviest job through the product and the reference, one after the other in one run, then the product's
+//! list of 32 settings beside 32 of its sweeps. `TURNING_REPEATS` says how often (101 where it is not set); the
+//! list, which walks 32 times a round, takes a fifth of the rounds.
 
 use std::hint::black_box;
 use std::time::{Duration, Instant};
-use turning::{jobs, product, reference, Swept};
+use turning::runs::Runs;
+use turning::settings::{fitting, walks};
+use turning::{jobs, product, reference, settings, Swept};
 
-fn timed(sweep: fn(&[u8]) -> Swept, job: &[u8]) -> Duration {
+/// 32 last wheelbases around the heaviest job's own 80,000: the lowest, the pitch and how many.
+const SETTINGS: (u32, u32, u32) = (64_500, 1_000, 32);
+
+fn timed(work: impl FnOnce()) -> Duration {
     let begun = Instant::now();
-    black_box(sweep(black_box(job)));
+    work();
     begun.elapsed()
+}
+
+fn sweep_once(sweep: fn(&[u8]) -> Swept, job: &[u8]) {
+    black_box(sweep(black_box(job)));
+}
+
+fn sweep_32_times(job: &[u8]) {
+    for _ in 0..32 {
+        sweep_once(product::sweep, job);
+    }
+}
+
+/// Makes its runs itself, as each sweep makes its own.
+fn list_32_settings(job: &[u8]) {
+    let (lowest, pitch, number) = SETTINGS;
+    black_box(product::settings(black_box(job), lowest, pitch, number, &mut Runs::zeros(2_001)));
 }
 
 fn median(mut times: Vec<Duration>) -> Duration {
@@ -16,9 +38,34 @@ fn median(mut times: Vec<Duration>) -> Duration {
     times[times.len() / 2]
 }
 
+/// The medians of both; the one that goes first changes from round to round, so that neither has a warmer machine.
+fn medians(rounds: usize, one: impl Fn(), other: impl Fn()) -> (Duration, Duration) {
+    let (mut ones, mut others) = (Vec::new(), Vec::new());
+    for round in 0..rounds {
+        if round % 2 == 0 {
+            ones.push(timed(&one));
+            others.push(timed(&other));
+        } else {
+            others.push(timed(&other));
+            ones.push(timed(&one));
+        }
+    }
+    (median(ones), median(others))
+}
+
 fn repeats() -> usize {
     let asked = std::env::var("TURNING_REPEATS").ok();
     asked.map_or(101, |text| text.parse().expect("TURNING_REPEATS is a number")).max(1)
+}
+
+/// Every setting is walked to the end with a complete station, and both list the same.
+fn check_settings(job: &[u8]) {
+    let (lowest, pitch, number) = SETTINGS;
+    let (mut runs, mut expected_runs) = (Runs::zeros(2_001), Runs::zeros(2_001));
+    let made = walks(job, lowest, pitch, number, &mut expected_runs).expect("the settings are within the limits");
+    assert_eq!(fitting(&made).len(), 32, "all 32 settings are walked to the end");
+    let listing = product::settings(job, lowest, pitch, number, &mut runs);
+    assert_eq!((listing, runs), (settings::best(&made), expected_runs), "both must list the same");
 }
 
 fn main() {
@@ -26,21 +73,18 @@ fn main() {
     let answer = reference::sweep(&job);
     assert!(matches!(answer, Swept::Finished { steps: 2_000, .. }), "the heaviest job is walked to its end");
     assert_eq!(product::sweep(&job), answer, "both must answer the same before they are timed");
-    let (mut ours, mut theirs) = (Vec::new(), Vec::new());
-    for round in 0..repeats() {
-        // The one that goes first changes from round to round, so that neither has a warmer machine.
-        if round % 2 == 0 {
-            ours.push(timed(product::sweep, &job));
-            theirs.push(timed(reference::sweep, &job));
-        } else {
-            theirs.push(timed(reference::sweep, &job));
-            ours.push(timed(product::sweep, &job));
-        }
-    }
-    let (rounds, ours, theirs) = (ours.len(), median(ours), median(theirs));
+    let rounds = repeats();
+    let (ours, theirs) = medians(rounds, || sweep_once(product::sweep, &job), || sweep_once(reference::sweep, &job));
     println!("four units, 2,000 steps with bends, from bytes to answer: medians of {rounds} rounds");
     println!("making and clearing the buffers is inside both");
     println!("ours       {:9.3} ms", ours.as_secs_f64() * 1e3);
     println!("reference  {:9.3} ms", theirs.as_secs_f64() * 1e3);
     println!("ratio ours / reference {:.3}", ours.as_secs_f64() / theirs.as_secs_f64());
+    check_settings(&job);
+    let rounds = (rounds / 5).max(1);
+    let (listed, swept) = medians(rounds, || list_32_settings(&job), || sweep_32_times(&job));
+    println!("the same job at 32 last wheelbases, 64,500 to 95,500, beside 32 sweeps: medians of {rounds} rounds");
+    println!("32 settings{:9.3} ms", listed.as_secs_f64() * 1e3);
+    println!("32 sweeps  {:9.3} ms", swept.as_secs_f64() * 1e3);
+    println!("ratio 32 settings / 32 sweeps {:.3}", listed.as_secs_f64() / swept.as_secs_f64());
 }
