@@ -57,9 +57,9 @@ uint32_t turning_run(const uint8_t *job, size_t job_len,
                      uint8_t *marks, size_t marks_len, int64_t *answer, size_t answer_len);
 
 /* Walks the job with its last unit's wheelbase replaced, from a new placement at each of 1 to 32 settings:
- * the lowest, then one pitch (at least 1) more for each next, all from 5,000 to 200,000. Lists the best three,
- * or fewer if fewer, of those that reach the last station with a complete station: the least widest width
- * first, the shorter wheelbase first among equals. The seven runs are those of turning_run.
+ * the lowest, then one pitch (at least 1) more for each next, all from 5,000 to 200,000. Lists the best
+ * three, or fewer if fewer, of those that reach the last station with a complete station: the least widest
+ * width first, the shorter wheelbase first among equals. The seven runs are those of turning_run.
  *   0                                   listed: how many, 1 to 3; wheelbase and widest width of each, best
  *                                       first; zeros after, 7 entries in all. The path stands in its four
  *                                       runs, the other three are as the last setting's walk left them,
@@ -70,7 +70,7 @@ uint32_t turning_run(const uint8_t *job, size_t job_len,
  *   21                                  the answer run has fewer than 7 entries, or one of the seven fewer
  *                                       than the job has stations: nothing is written
  *   29                                  a pitch of 0, a number not 1 to 32, or a setting outside the limits,
- *                                       tested after the others: nothing is written */
+ *                                       tested last, before any walk: nothing is written */
 uint32_t turning_settings(const uint8_t *job, size_t job_len,
                           uint32_t lowest, uint32_t pitch, uint32_t number,
                           int32_t *xs, size_t xs_len, int32_t *ys, size_t ys_len,
