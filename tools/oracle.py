@@ -3,6 +3,8 @@
 
   oracle.py sweep < job.bin     prints what the program sweep prints
   oracle.py sweeps < hex.txt    the same for each line of hexadecimal bytes ('-' for none)
+  oracle.py settings LOWEST PITCH NUMBER < job.bin
+                                prints what the program settings prints for these three numbers
   oracle.py worked              the paper's worked cases
   oracle.py vectors             writes the tables of job_trials and call_trials (some minutes)
   oracle.py groups              the conventions that rows of the tables pin, and on which lines
@@ -12,6 +14,7 @@ import sys
 
 sys.dont_write_bytecode = True  # keeps the repository free of compiled files
 
+from turning.settings import numbers_of, settings  # noqa: E402
 from turning.sweep import sweep  # noqa: E402
 from turning.vectors import tell_groups, write_vectors  # noqa: E402
 from turning.worked import check_worked  # noqa: E402
@@ -32,7 +35,10 @@ def sweep_lines():
 
 def main(arguments):
     command = arguments[0] if len(arguments) == 1 else ""
-    if command == "sweep":
+    numbers = numbers_of(arguments[1:])
+    if numbers and arguments[0] == "settings":
+        sys.stdout.write(settings(sys.stdin.buffer.read(), *numbers))
+    elif command == "sweep":
         sys.stdout.write(sweep(sys.stdin.buffer.read()))
     elif command == "sweeps":
         sweep_lines()

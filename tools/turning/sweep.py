@@ -7,20 +7,25 @@ from .walk import Runs, RefusedAt, move, place, test_not_last, test_record, wide
 MOST_BYTES = 1_024
 
 
-def walk_to_the_end(job):
-    """The runs after the last step; a refused step is told with its number from 1."""
-    asked = total_steps(job) + 1
-    runs = Runs(*([0] * asked for _ in range(7)))
-    lay(job, runs.xs, runs.ys, runs.gxs, runs.gys)
-    walk = place(job.vehicle, asked, runs)
+def walked(vehicle, asked, runs):
+    """A new placement and the steps to the last station; the line of a refused step, its number from 1, or None."""
+    walk = place(vehicle, asked, runs)
     for made in range(asked - 1):
         test_record(walk, asked)  # 26 was tested by the placement, and no step writes the path
         test_not_last(walk, asked)
         try:
             walk = move(walk, asked, runs)
         except RefusedAt as refusal:
-            return runs, "refused %d unit %d step %d\n" % (refusal.number, refusal.unit, made + 1)
-    return runs, None
+            return "refused %d unit %d step %d\n" % (refusal.number, refusal.unit, made + 1)
+    return None
+
+
+def walk_to_the_end(job):
+    """The runs after the last step made, and the line of a refused step or None."""
+    asked = total_steps(job) + 1
+    runs = Runs(*([0] * asked for _ in range(7)))
+    lay(job, runs.xs, runs.ys, runs.gxs, runs.gys)
+    return runs, walked(job.vehicle, asked, runs)
 
 
 def widest_line(runs):
