@@ -5,9 +5,10 @@ Each line_* function takes the arguments by value, runs the operation on copies,
 
 from .path import lay, path_turn
 from .record import NO_ELEMENT, Refused, write_job
+from .settings import MOST_LISTED, list_settings
 from .walk import Runs, place, step, unit_turn, widest
 
-PLACE, STEP, WIDEST, WRITE, LAY, PATH_TURN, UNIT_TURN = range(1, 8)
+PLACE, STEP, WIDEST, WRITE, LAY, PATH_TURN, UNIT_TURN, LIST = range(1, 9)
 
 
 def flat_vehicle(vehicle):
@@ -99,3 +100,14 @@ def line_unit_turn(d, f, wheelbase):
     except Refused as refused:
         expected = [refused.number, 0, 0]
     return line(UNIT_TURN, list(d) + list(f) + [wheelbase], expected)
+
+
+def line_list(job, lowest, pitch, number, runs):
+    after, refusal, listed = copied(runs), 0, []
+    try:
+        listed = list_settings(job, lowest, pitch, number, after)
+    except Refused as refused:
+        refusal = refused.number
+    places = listed + [(0, 0)] * (MOST_LISTED - len(listed))
+    expected = [refusal, len(listed)] + [value for pair in places for value in pair] + flat_runs(after)
+    return line(LIST, flat_job(job) + [lowest, pitch, number] + flat_runs(runs), expected)

@@ -1,7 +1,7 @@
 """Rows of the tables computed again from what stands before their answers."""
 
-from .calls import (LAY, PATH_TURN, PLACE, STEP, UNIT_TURN, WIDEST, WRITE, line_lay, line_path_turn, line_place, line_step,
-                    line_unit_turn, line_widest, line_write)
+from .calls import (LAY, LIST, PATH_TURN, PLACE, STEP, UNIT_TURN, WIDEST, WRITE, line_lay, line_list, line_path_turn,
+                    line_place, line_step, line_unit_turn, line_widest, line_write)
 from .record import NO_ELEMENT, Element, Job, Start, Unit, Vehicle
 from .sweep import sweep
 from .walk import Runs, Walk
@@ -49,6 +49,7 @@ READ = {
     LAY: lambda f: line_lay(f.job(), f.runs(4)),
     PATH_TURN: lambda f: line_path_turn(tuple(f.take(2)), f.one(), f.one()),
     UNIT_TURN: lambda f: line_unit_turn(*f.vectors(2), f.one()),
+    LIST: lambda f: line_list(f.job(), *f.take(3), Runs(*f.runs(7))),
 }
 
 

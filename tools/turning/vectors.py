@@ -3,6 +3,7 @@
 from collections import Counter
 
 from .call_records import lays, writes
+from .call_settings import list_kinds, lists
 from .call_stations import walk_calls
 from .call_turns import path_turns, unit_turns
 from .chance import Chance
@@ -12,12 +13,18 @@ from .jobs import all_jobs
 from .tables import job_line
 from .worked import rigs_to_try
 
-OPERATIONS = {"1": "place", "2": "step", "3": "widest", "4": "write", "5": "lay", "6": "path turn", "7": "unit turn"}
+OPERATIONS = {"1": "place", "2": "step", "3": "widest", "4": "write", "5": "lay", "6": "path turn", "7": "unit turn",
+              "8": "list"}
 
 
 def call_lines():
     lines = walk_calls(Chance(2002)) + writes(Chance(52)) + lays(Chance(64))
     return list(dict.fromkeys(lines + path_turns(Chance(6)) + unit_turns(Chance(7))))
+
+
+def list_lines():
+    """Calls of the list of settings, which stand after all others so that no older row moves."""
+    return list(dict.fromkeys(lists(Chance(8))))
 
 
 def job_groups():
@@ -74,7 +81,7 @@ def write_file(path, lines):
 
 def write_vectors(job_folder, call_folder):
     jobs = grouped([job_line(data) for data in all_jobs()], job_groups())
-    calls = grouped(call_lines(), call_groups())
+    calls = grouped(call_lines(), call_groups()) + list_lines()
     write_file(job_folder / "rigs.txt", [job_line(data) for data in rigs_to_try()])
     write_file(job_folder / "jobs.txt", jobs)
     write_file(call_folder / "calls.txt", calls)
@@ -83,3 +90,4 @@ def write_vectors(job_folder, call_folder):
     for operation, name in OPERATIONS.items():
         numbers = [line.split(" = ")[1].split(" ")[0] for line in calls if line.startswith(operation + " ")]
         print("  %s %s, %d lines. %s" % (operation, name, len(numbers), told(numbers)))
+    print("  lists by what they show. %s" % told(list_kinds(Chance(8))))
