@@ -5,7 +5,8 @@
 
 Every program is run in a copy of its data/ on its stdin: standard output must be its file stdout, standard
 error empty. `sweep` is then fed every job of the tables, the longest of them padded to several lengths and in
-pieces, and inputs and outputs that fail. No contract can say what a program reads and writes.
+pieces, and inputs and outputs that fail; `settings` likewise, with lists and with wrong arguments. No contract can
+say what a program reads and writes.
 """
 import concurrent.futures
 import os
@@ -20,14 +21,25 @@ import tty
 
 sys.dont_write_bytecode = True  # keeps the repository free of compiled files
 
+from turning.record import Refused, read_job  # noqa: E402
+from turning.settings import numbers_of, settings  # noqa: E402
+from turning.settings_jobs import given_rows  # noqa: E402
 from turning.sweep import sweep  # noqa: E402
+from turning.worked import job_bytes  # noqa: E402
 
 ROOT = pathlib.Path(__file__).resolve().parent.parent
 JOB_LINE = re.compile(r"(-|(?:[0-9a-f]{2})+) ((?:steps|refused) .*/)")
 LENGTHS = [1_023, 1_024, 1_025, 100_000]
-UNREAD = b"sweep: standard input cannot be read\n"
-UNWRITTEN = b"sweep: standard output cannot be written\n"
+UNREAD = ": standard input cannot be read\n"
+UNWRITTEN = ": standard output cannot be written\n"
+EXPECTED = b"settings: expected three numbers up to 4294967295: lowest wheelbase, pitch, number of settings\n"
 SECONDS = 900
+
+SOME_SETTINGS = ["50000", "30000", "6"]
+NO_NUMBERS = ["", " ", "-1", "+5", "12a", " 5", "5 ", "5\n", "1e4", "0x10", "5_000", "five", b"\xd9\xa5", b"\xff"]
+TOO_LARGE = ["4294967296", "4294972296", "18446744073709556616", "99999999999999999999999", "9" * 1_000]
+ALLOWED = [["00062000", "007", "03"], ["62000".zfill(200), "1".zfill(200), "32".zfill(200)], ["0" * 200, "1", "1"],
+           ["5000", "4294967295", "1"], ["62000", "0004294967295", "2"], ["4294967295"] * 3, ["0", "0", "0"]]
 
 
 def ended(process):
@@ -40,16 +52,16 @@ def started(command, **streams):
     return subprocess.Popen(command, **{"stdout": subprocess.PIPE, "stderr": subprocess.PIPE, **streams})
 
 
-def from_file(program, data):
+def from_file(command, data):
     with tempfile.TemporaryFile() as file:
         file.write(data)
         file.seek(0)
-        return ended(started([program], stdin=file))
+        return ended(started(command, stdin=file))
 
 
-def from_pipe(program, data, piece):
+def from_pipe(command, data, piece):
     """So many bytes at a time, so that one read does not get them all."""
-    process = started([program], stdin=subprocess.PIPE)
+    process = started(command, stdin=subprocess.PIPE)
     try:
         for at in range(0, len(data), piece):
             process.stdin.write(data[at : at + piece])
@@ -60,19 +72,19 @@ def from_pipe(program, data, piece):
     return ended(process)
 
 
-def broken_off(program, data):
+def broken_off(command, data):
     """The bytes, and then a read that fails: a terminal whose other side is closed."""
     ours, theirs = os.openpty()
     tty.setraw(theirs)
-    process = started([program], stdin=ours)
+    process = started(command, stdin=ours)
     os.write(theirs, data)
     os.close(theirs)
     os.close(ours)
     return ended(process)
 
 
-def by_shell(program, redirection):
-    return ended(started(["sh", "-c", 'exec "$0" ' + redirection, program], stdin=subprocess.DEVNULL))
+def by_shell(command, redirection):
+    return ended(started(["sh", "-c", 'exec "$0" "$@" ' + redirection] + command, stdin=subprocess.DEVNULL))
 
 
 def table_jobs():
@@ -91,29 +103,98 @@ def table_jobs():
     return jobs
 
 
-def sweep_cases(program):
-    """A name for each input, a call that runs it, and what both streams must hold."""
-    jobs = table_jobs()
+def longest_of(jobs):
     longest = max((data for data, text in jobs.items() if text.startswith(b"steps")), key=len)
     if len(jobs) < 500 or len(longest) < 400:
         raise SystemExit("the tables have %d jobs, the longest of %d bytes: too few" % (len(jobs), len(longest)))
-    for data, text in jobs.items():
-        yield "job " + data.hex(), lambda data=data: from_pipe(program, data, 4_096), (text, b"")
+    return longest
+
+
+def input_cases(command, answer, longest):
+    """The same bytes as a file, in pieces and broken off; padded ones; inputs and outputs that fail."""
+    unread, unwritten = ((b"", (command[0].name + line).encode()) for line in (UNREAD, UNWRITTEN))
     worked = stored(ROOT / "crates" / "sweep", "stdin")
     for data in (b"", worked, longest):
-        text = sweep(data).encode()
-        yield "%d bytes as a file" % len(data), lambda data=data: from_file(program, data), (text, b"")
-        yield "%d bytes in pieces" % len(data), lambda data=data: from_pipe(program, data, 25), (text, b"")
-        yield "%d bytes broken off" % len(data), lambda data=data: broken_off(program, data), (b"", UNREAD)
+        text = answer(data).encode()
+        yield "%d bytes as a file" % len(data), lambda data=data: from_file(command, data), (text, b"")
+        yield "%d bytes in pieces" % len(data), lambda data=data: from_pipe(command, data, 25), (text, b"")
+        yield "%d bytes broken off" % len(data), lambda data=data: broken_off(command, data), unread
     for length in LENGTHS:
         for data in (longest.ljust(length, b"\0"), longest.ljust(length, b"\xff"), b"\4" * length):
-            text = sweep(data).encode()
-            yield "%d bytes" % length, lambda data=data: from_pipe(program, data, 65_536), (text, b"")
-            yield "%d bytes as a file" % length, lambda data=data: from_file(program, data), (text, b"")
-    yield "a closed input", lambda: by_shell(program, "<&-"), (b"", UNREAD)
-    yield "a folder as input", lambda: by_shell(program, "</"), (b"", UNREAD)
-    yield "a full disk", lambda: by_shell(program, ">/dev/full"), (b"", UNWRITTEN)
-    yield "a closed output", lambda: by_shell(program, ">&-"), (b"", UNWRITTEN)
+            text = answer(data).encode()
+            yield "%d bytes" % length, lambda data=data: from_pipe(command, data, 65_536), (text, b"")
+            yield "%d bytes as a file" % length, lambda data=data: from_file(command, data), (text, b"")
+    yield "a closed input", lambda: by_shell(command, "<&-"), unread
+    yield "a folder as input", lambda: by_shell(command, "</"), unread
+    yield "a full disk", lambda: by_shell(command, ">/dev/full"), unwritten
+    yield "a closed output", lambda: by_shell(command, ">&-"), unwritten
+
+
+def sweep_cases(program):
+    """A name for each input, a call that runs it, and what both streams must hold."""
+    jobs = table_jobs()
+    for data, text in jobs.items():
+        yield "job " + data.hex(), lambda data=data: from_pipe([program], data, 4_096), (text, b"")
+    yield from input_cases([program], sweep, longest_of(jobs))
+
+
+def own_setting(data, text):
+    """A job's own last wheelbase as the only setting, and what must come of it by what sweep prints."""
+    try:
+        vehicle = read_job(data).vehicle
+    except Refused:
+        return SOME_SETTINGS, text
+    wheelbase, widest = vehicle.units[vehicle.count - 1].wheelbase, re.search(rb"widest \d+ (\d+)", text)
+    line = b"setting %d %s\n" % (wheelbase, widest[1]) if widest else b"refused 30\n"
+    return [str(wheelbase), "4294967295", "1"], line
+
+
+def list_inputs(jobs):
+    """Jobs with three arguments each: those of the calls, the tables' shorter ones, and arguments at their ends."""
+    inputs = [(job_bytes(job), list(map(str, numbers))) for job, numbers in given_rows()]
+    short = [data for data, text in jobs.items() if text.startswith(b"steps") and int(text.split()[1]) <= 60]
+    inputs += [(data, [str(5_000 + 4_000 * k), "3000", "9"]) for k, data in enumerate(short[::5])]
+    sound, refused = stored(ROOT / "crates" / "sweep", "stdin"), b"\0"
+    return inputs + [(data, words) for words in ALLOWED for data in (sound, refused)]
+
+
+def wrong_arguments():
+    """None, too few, too many, and each wrong word in each place."""
+    good = ["62000", "1000", "3"]
+    yield from (good[:count] for count in range(3))
+    yield from (good + ["1"], good + [""], good * 30)
+    for word in NO_NUMBERS + TOO_LARGE:
+        for place in range(3):
+            yield good[:place] + [word] + good[place + 1 :]
+
+
+def argument_cases(program):
+    """Wrong arguments print one line whatever the input and the output are, which they leave alone."""
+    worked = stored(ROOT / "crates" / "sweep", "stdin")
+    for words in wrong_arguments():
+        command = [program] + words
+        yield "arguments %.60r" % words, lambda command=command: from_file(command, worked), (b"", EXPECTED)
+    for redirection in ("<&-", "</", ">/dev/full", ">&-"):
+        command = [program, "62000", "1000"]
+        yield "two, " + redirection, lambda way=redirection: by_shell(command, way), (b"", EXPECTED)
+
+
+def settings_case(program, data, words, text):
+    """One input with its arguments; the name is cut, for some arguments are long."""
+    name = "settings %.90s < %s" % (" ".join(words), data.hex())
+    return name, lambda: from_pipe([program] + words, data, 4_096), (text, b"")
+
+
+def settings_cases(program):
+    """Every job of the tables at its own wheelbase, lists, wrong arguments, and what `sweep` is put through."""
+    jobs = table_jobs()
+    for data, text in jobs.items():
+        yield settings_case(program, data, *own_setting(data, text))
+    for data, words in list_inputs(jobs):
+        yield settings_case(program, data, words, settings(data, *numbers_of(words)).encode())
+    yield from argument_cases(program)
+    numbers = numbers_of(SOME_SETTINGS)
+    yield from input_cases([program] + SOME_SETTINGS, lambda data: settings(data, *numbers), longest_of(jobs))
 
 
 def stored(crate, name):
@@ -166,8 +247,10 @@ def main(arguments):
     if missing:
         print("not in %s: %s" % (folder, " ".join(missing)), file=sys.stderr)
         return 1
-    same = compare("programs", program_cases(folder), "run, both streams as stored")
-    return 0 if compare("sweep", sweep_cases(folder / "sweep"), "inputs, all as expected") and same else 1
+    same = [compare("programs", program_cases(folder), "run, both streams as stored"),
+            compare("sweep", sweep_cases(folder / "sweep"), "inputs, all as expected"),
+            compare("settings", settings_cases(folder / "settings"), "inputs, all as expected")]
+    return 0 if all(same) else 1
 
 
 if __name__ == "__main__":
