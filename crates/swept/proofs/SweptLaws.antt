@@ -44,7 +44,7 @@ module _ (j : Job) (sound : judge j ≡ 0) where
   unfolding emptyReaches
   reaches-room = let e = le-leb asked 2001 (sound-path j sound .most) in and e (and e e)
 
-  run-passes : runRefusal j emptyPath emptyReaches ≡ 0
+  pub run-passes : runRefusal j emptyPath emptyReaches ≡ 0
   run-passes = all-passed j emptyPath emptyReaches sound path-room reaches-room
 
 -- the walk of a job that nothing refuses
@@ -109,7 +109,7 @@ module _ (s : List ℕ) (bytes : Bytes s) (p : PathRuns) (r : Reaches) where
   }
 
 -- a refused reading is one of the number and the byte beside it
-refused-by : (x : Read Job) (r : JobRead) (n p : ℕ) → r ≡ jobRead x → r .answer ≡ A.Refused n p → x ≡ refused n p
+pub refused-by : (x : Read Job) (r : JobRead) (n p : ℕ) → r ≡ jobRead x → r .answer ≡ A.Refused n p → x ≡ refused n p
 refused-by (got j e) r n p k a = absurd (let z : A.Refused n p ≡ A.Accepted = sym a ∙ ap (λ (y : JobRead). y .answer) k in let y : _≡_ {A = ℕ} 0 1 = cc in omega arith)
 refused-by (refused m q) r n p k a = let z : A.Refused n p ≡ A.Refused m q = sym a ∙ ap (λ (y : JobRead). y .answer) k in cc
 
