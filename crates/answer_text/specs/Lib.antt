@@ -1,4 +1,5 @@
 pub mod Printed
+pub mod Settings
 pub mod Answers
 pub mod Appending
 pub mod Inner

@@ -1,4 +1,6 @@
-// What a job came to, as the lines that the program prints.
+// What a job came to, as the lines that the programs print.
+pub mod settings;
+
 use plane::Vec2;
 use reaches::Best;
 use reaches::Place;
