@@ -1,2 +1,3 @@
 pub mod Offered
 pub mod Ranges
+pub mod Claims

@@ -6,6 +6,7 @@ ghost use Rattle.path.specs.Laying.{pathRuns};
 ghost use Rattle.reaches.specs.Cells.{reachRuns};
 ghost use Rattle.offered.specs.Offered.{offeredOf};
 ghost use Rattle.offered.specs.Ranges.{ListIntoEnsures};
+ghost use Rattle.offered.specs.Claims.{FirstBytes};
 
 // What the list of the job comes to; or the record's refusal, with the byte where the field starts.
 pub enum Offered {
@@ -82,3 +83,8 @@ pub fn list_job(bytes: &[u8], lowest: u32, pitch: u32, number: u32) -> Offered
         &mut marks,
     )
 }
+
+// Claim: of a longer input the first 1,024 bytes decide the answer.
+pub fn first_bytes()
+    ensures { λ _. ⌜ FirstBytes ⌝ }
+{}
