@@ -29,6 +29,9 @@ use Rattle.stations.specs.Stepping.{pointsAt, ifMade, StepEnsures}
 use Rattle.run.specs.declared.Ran.the-variants as R
 use Rattle.run.specs.Walking.{Course, walkOn}
 use Rattle.run.specs.Run.{runRefusal, jobPath, jobCourse}
+use Rattle.bogie.specs.declared.Listed.{Listed}
+use Rattle.bogie.specs.Settings.{Rail, lastSetting, jobSet}
+use Rattle.bogie.specs.List.{listRefusal, ListEnsures}
 use Rattle.claim.specs.WholeRun.{Run, Ensured}
 use Rattle.claim.specs.NeverWritten.{topTwo, topTwoBits, PastKept, PathPastKept, ReachesPastKept, stationCount, StepNever, PlaceNever, RunNever, NeverWritten}
 use Rattle.claim.proofs.CallsKept.{none-refused}
@@ -180,6 +183,18 @@ lay-never j before answer after k = subst (PathPastKept (stationCount j) before)
     by (L.Stations n) = written-past (stations j) before
     by (L.Refused n) = path-same (stationCount j) before
 
+-- the walk of a job over its own path
+module _ (j : Job) (p : PathRuns) (r : Reaches) where
+  course-past : ReachesPastKept (stationCount j) r (jobCourse j p r .runs)
+  course-past =
+      let n = stationCount j in
+      reaches-then n r (cleared n r) (jobCourse j p r .runs) (stations-past _ n n r (omega arith))
+      (along (ReachesPastKept n) (reaches-same n) (reaches-then n) n (jobPath j p) (crossed-past n (jobPath j p)) _ _ (cleared n r))
+
+  path-by : (m : ℕ) → PathPastKept (stationCount j) p (unlessRefused m (jobPath j p) p)
+  path-by zero = written-past (stations j) p
+  path-by (suc m) = path-same (stationCount j) p
+
 -- a whole job
 module _ (x : Run) (h : Ensured x) where
   abbrev n : ℕ
@@ -198,22 +213,22 @@ module _ (x : Run) (h : Ensured x) where
       ∙ along SameTop top-same top-then n (jobPath (x .job) (x .path)) (crossed-top n (jobPath (x .job) (x .path))) _ _ (cleared n (x .reaches)) i
       ∙ cleared-top n (x .reaches) i l
 
-  course-past : ReachesPastKept n (x .reaches) (course .runs)
-  course-past =
-      reaches-then n (x .reaches) (cleared n (x .reaches)) (course .runs) (stations-past _ n n (x .reaches) (omega arith))
-      (along (ReachesPastKept n) (reaches-same n) (reaches-then n) n (jobPath (x .job) (x .path)) (crossed-past n (jobPath (x .job) (x .path))) _ _ (cleared n (x .reaches)))
-
-  path-by : (m : ℕ) → PathPastKept n (x .path) (unlessRefused m (jobPath (x .job) (x .path)) (x .path))
-  path-by zero = written-past (stations (x .job)) (x .path)
-  path-by (suc m) = path-same n (x .path)
-
   run-never : RunNever x
   run-never =
       record {
         top = run-top;
-        pathPast = subst (PathPastKept n (x .path)) (sym (h .path)) (path-by refusal);
-        past = subst (ReachesPastKept n (x .reaches)) (sym (h .reaches)) (unless-refused (ReachesPastKept n (x .reaches)) refusal (course .runs) (x .reaches) course-past (reaches-same n (x .reaches)));
+        pathPast = subst (PathPastKept n (x .path)) (sym (h .path)) (path-by (x .job) (x .path) (x .reaches) refusal);
+        past = subst (ReachesPastKept n (x .reaches)) (sym (h .reaches)) (unless-refused (ReachesPastKept n (x .reaches)) refusal (course .runs) (x .reaches) (course-past (x .job) (x .path) (x .reaches)) (reaches-same n (x .reaches)));
       }
 
+-- a list of settings: the stations are the job's at every wheelbase
+list-never : (j : Job) (b : Rail) (p : PathRuns) (r : Reaches) (answer : Listed) (p' : PathRuns) (r' : Reaches) → ListEnsures j b p r answer p' r' → PathPastKept (stationCount j) p p' × ReachesPastKept (stationCount j) r r'
+unfolding stations
+list-never j b p r answer p' r' h = (
+  subst (PathPastKept (stationCount j) p) (sym (h .path)) (path-by j p r (listRefusal j b p r)),
+  subst (ReachesPastKept (stationCount j) r) (sym (h .reaches))
+      (unless-refused (ReachesPastKept (stationCount j) r) (listRefusal j b p r) _ r (course-past (jobSet j (lastSetting b)) p r) (reaches-same (stationCount j) r)),
+)
+
 pub never-written : NeverWritten
-never-written = record { lay = lay-never; place = place-never; step = step-never; run = run-never }
+never-written = record { lay = lay-never; place = place-never; step = step-never; run = run-never; list = list-never }

@@ -17,6 +17,9 @@ use Rattle.stations.specs.declared.PlaceAnswer.the-variants as P
 use Rattle.stations.specs.Placing.{PlaceEnsures}
 use Rattle.stations.specs.Stepping.{StepEnsures}
 use Rattle.run.specs.declared.Ran.the-variants as R
+use Rattle.bogie.specs.declared.Listed.{Listed}
+use Rattle.bogie.specs.Settings.{Rail}
+use Rattle.bogie.specs.List.{ListEnsures}
 use Rattle.claim.specs.WholeRun.{Run, Ensured}
 
 -- the top two bits of a mark, which is a byte, and those of station i's
@@ -62,9 +65,12 @@ pub record RunNever (x : Run) : Type 0 where
   pub pathPast : PathPastKept (stationCount (x .job)) (x .path) (x .pathLeft)
   pub past : ReachesPastKept (stationCount (x .job)) (x .reaches) (x .reachesLeft)
 
--- the claim, over what the four entries ensure
+-- the claim, over what the five entries ensure
 pub record NeverWritten : Type 0 where
   pub lay : (j : Job) (before : PathRuns) (answer : Laid) (after : PathRuns) → LayEnsures j before answer after → PathPastKept (stationCount j) before after
   pub place : (v : Vehicle) (w : Walk) (c : Call) (before : Reaches) (p : Placing) (after : Reaches) → PlaceEnsures v w c before p after → PlaceNever c before p after
   pub step : (w : Walk) (c : Call) (before : Reaches) (r : Advanced) (after : Reaches) → StepEnsures w c before r after → StepNever c before after
   pub run : (x : Run) → Ensured x → RunNever x
+  -- a list of settings, with a list and with 30 alike, and refused before that
+  pub list : (j : Job) (b : Rail) (p : PathRuns) (r : Reaches) (answer : Listed) (p' : PathRuns) (r' : Reaches) → ListEnsures j b p r answer p' r'
+      → PathPastKept (stationCount j) p p' × ReachesPastKept (stationCount j) r r'

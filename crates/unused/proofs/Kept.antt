@@ -1,9 +1,14 @@
 -- What the entries ensure of jobs and walk records that agree but for unused entries. Assumes nothing.
-use Prim.Native.Nat.{ℕ, zero, suc}
+use Prim.Native.Nat.{ℕ, zero, suc, _-_, _<_}
 use mathlib.Core.Path.{_≡_, refl, _∙_, sym, ap}
-use lib.ListN.{length}
+use mathlib.Core.List.{List}
+use native.Mathlib.Omega.{arith}
+use lib.ListN.{length, take, set, getD}
+use lib.Seq.{take-set-lt, getD-take}
+use Rattle.job.specs.declared.Unit.{Unit as VehicleUnit}
 use Rattle.job.specs.declared.Vehicle.{Vehicle}
 use Rattle.job.specs.declared.Job.{Job}
+use Rattle.job.specs.Empty.{emptyUnit}
 use Rattle.path.specs.Stations.{stations}
 use Rattle.path.specs.Laying.{PathRuns, layAnswer}
 use Rattle.walk.specs.declared.StepAnswer.{StepAnswer}
@@ -19,6 +24,10 @@ use Rattle.stations.specs.Stepping.{StepEnsures}
 use Rattle.run.specs.Walking.{Course}
 use Rattle.run.specs.declared.Ran.{Ran}
 use Rattle.run.specs.Run.{ranBy, ranOver, runRefusal, jobPath, jobCourse, RunEnsures}
+use Rattle.bogie.specs.declared.Listed.{Listed}
+use Rattle.bogie.specs.Settings.{Rail, settingAt, lastSetting, unitSet, vehicleSet, jobSet}
+use Rattle.bogie.specs.Ranking.{fitting}
+use Rattle.bogie.specs.List.{listRefusal, ranAt, ListEnsures}
 use Rattle.unused.specs.Same.{SameVehicle, SameJob, SameRig}
 use Rattle.unused.specs.Unused.{SameCall, SameRun, Unused}
 use Rattle.unused.proofs.SameJobs.{vehicle-fault, emptied, fault, bytes, laid-stations, laid-answer, laid-runs}
@@ -93,6 +102,52 @@ module _ (j k : Job) (s : SameJob j k) (p : PathRuns) (r : Reaches) where
         reaches = rw (h .reaches, g .reaches, run-refusal, course .runs);
       }
 
+-- its settings: another wheelbase of the last unit in use, whatever stands past it
+abbrev put : ℕ → ℕ → List VehicleUnit → List VehicleUnit
+put w n us = set us (n - 1) (unitSet (getD us (n - 1) emptyUnit) w)
+
+in-use : (w n : ℕ) (us : List VehicleUnit) → take n (put w n us) ≡ put w n (take n us)
+in-use w zero us = refl
+in-use w (suc n) us =
+    let l : suc n - 1 < suc n = omega arith in
+    rw (take-set-lt (suc n) us (suc n - 1) (unitSet (getD us (suc n - 1) emptyUnit) w) l, getD-take (suc n) us (suc n - 1) emptyUnit l) refl
+
+vehicle-set : (v u : Vehicle) → SameVehicle v u → (w : ℕ) → SameVehicle (vehicleSet v w) (vehicleSet u w)
+vehicle-set v u s w = record {
+  count = s .count;
+  units =
+      in-use w (v .count) (v .units) ∙ ap (put w (v .count)) (s .units) ∙ ap (λ (n : ℕ). put w n (take (u .count) (u .units))) (s .count)
+      ∙ sym (in-use w (u .count) (u .units));
+  overhang = s .overhang;
+  frontHalfWidth = s .frontHalfWidth;
+  rearHalfWidth = s .rearHalfWidth;
+}
+
+module _ (j k : Job) (s : SameJob j k) (b : Rail) (p : PathRuns) (r : Reaches) where
+  set-same : (w : ℕ) → SameJob (jobSet j w) (jobSet k w)
+  set-same w = record { vehicle = vehicle-set (j .vehicle) (k .vehicle) (s .vehicle) w; start = s .start; step = s .step; count = s .count; elements = s .elements }
+
+  ran-at : (w : ℕ) → ranAt j p r w ≡ ranAt k p r w
+  ran-at w =
+      let t = set-same w in
+      rw (ran-same (length (stations (jobSet j w))) (jobPath (jobSet j w) p) (jobCourse (jobSet j w) p r) (jobCourse (jobSet k w) p r) (course (jobSet j w) (jobSet k w) t p r), laid-stations (jobSet j w) (jobSet k w) t)
+
+  fitting-same : (n : ℕ) → fitting (ranAt j p r) (settingAt b) n ≡ fitting (ranAt k p r) (settingAt b) n
+  unfolding fitting
+  fitting-same zero = refl
+  fitting-same (suc n) = rw (ran-at (settingAt b n), fitting-same n)
+
+  list-refusal : listRefusal j b p r ≡ listRefusal k b p r
+  unfolding listRefusal
+  list-refusal = rw (run-refusal j k s p r)
+
+  listing : (a c : Listed) (p' q' : PathRuns) (r' s' : Reaches) → ListEnsures j b p r a p' r' → ListEnsures k b p r c q' s' → SameRun a c p' q' r' s'
+  listing a c p' q' r' s' h g = record {
+    answer = rw (h .answered, g .answered, list-refusal, fitting-same (b .number));
+    path = rw (h .path, g .path, list-refusal, laid-stations j k s);
+    reaches = rw (h .reaches, g .reaches, list-refusal, course (jobSet j (lastSetting b)) (jobSet k (lastSetting b)) (set-same (lastSetting b)) p r .runs);
+  }
+
 pub unused : Unused
 unused = record {
   emptied = emptied;
@@ -107,6 +162,7 @@ unused = record {
   placed = placing;
   stepped = stepping;
   ran = running;
+  listed = listing;
   someJobs = some-jobs;
   someSteps = some-steps;
 }

@@ -23,6 +23,9 @@ use Rattle.stations.specs.Placing.{PlaceEnsures}
 use Rattle.stations.specs.Stepping.{StepEnsures}
 use Rattle.run.specs.declared.Ran.{Ran}
 use Rattle.run.specs.Run.{RunEnsures}
+use Rattle.bogie.specs.declared.Listed.{Listed}
+use Rattle.bogie.specs.Settings.{Rail}
+use Rattle.bogie.specs.List.{ListEnsures}
 use Rattle.unused.specs.Same.{SameVehicle, SameJob, SameRig}
 use Rattle.unused.specs.Witnesses.{SomeJobs, SomeSteps}
 
@@ -32,8 +35,8 @@ pub record SameCall {A : Type 0} (a b : A) (w x : Walk) (after other : Reaches) 
   pub walk : SameRig (view w) (view x)
   pub runs : after ≡ other
 
--- two runs of a whole job: the answer and all seven runs
-pub record SameRun (a b : Ran) (p' q' : PathRuns) (r' s' : Reaches) : Type 0 where
+-- two runs of a whole job, or two lists of its settings: the answer and all seven runs
+pub record SameRun {A : Type 0} (a b : A) (p' q' : PathRuns) (r' s' : Reaches) : Type 0 where
   pub answer : a ≡ b
   pub path : p' ≡ q'
   pub reaches : r' ≡ s'
@@ -62,6 +65,9 @@ pub record Unused : Type 0 where
   -- run on the same seven runs
   pub ran : (j k : Job) → SameJob j k → (p : PathRuns) (r : Reaches) (a b : Ran) (p' q' : PathRuns) (r' s' : Reaches)
       → RunEnsures j p r a p' r' → RunEnsures k p r b q' s' → SameRun a b p' q' r' s'
+  -- its settings listed for the same rail, on the same seven runs
+  pub listed : (j k : Job) → SameJob j k → (b : Rail) (p : PathRuns) (r : Reaches) (a c : Listed) (p' q' : PathRuns) (r' s' : Reaches)
+      → ListEnsures j b p r a p' r' → ListEnsures k b p r c q' s' → SameRun a c p' q' r' s'
   -- there are two such jobs that differ, and two such records of their vehicles, with calls that are made and calls that are refused
   pub someJobs : SomeJobs
   pub someSteps : SomeSteps (someJobs .one .vehicle) (someJobs .other .vehicle)
