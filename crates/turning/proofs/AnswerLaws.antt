@@ -1,6 +1,6 @@
 -- Entries written one after the other; and the two ways to answer: a run that is too short, and one that has the room.
 use Prim.Native.Nat.{ℕ, _^_, _≤_, _<_}
-use mathlib.Core.Path.{_≡_, refl, sym, _∙_, ap}
+use mathlib.Core.Path.{_≡_, refl, sym, _∙_, ap, subst}
 use mathlib.Core.List.{List, _++_}
 use native.Mathlib.Nat.{zero-add}
 use borrow.Author.Tests.{le-leb, lt-leb}
@@ -12,7 +12,7 @@ use mir.Val.{SFits}
 use mir.Facts.{toZ-ofZ}
 use Rattle.exact.proofs.Machine.{reread}
 use Rattle.number.proofs.Writing.{sets-append}
-use Rattle.turning.specs.Answers.{Told, Answered}
+use Rattle.turning.specs.Answers.{Told, TellEnsures, Answered}
 
 -- a count fits an entry, and is read back from its bits as it was
 pub count-fits : (n : ℕ) → n < 2 ^ 63 → SFits w64 (pos n)
@@ -30,3 +30,7 @@ too-short room t before h = let e = lt-leb room (length before) h in record { nu
 
 pub answered : (room : ℕ) (t : Told) (before : List ℤ) (n : ℕ) (after : List ℤ) → room ≤ length before → n ≡ t .number → after ≡ sets before 0 (t .entries) → Answered room t before n after
 answered room t before n after h p q = let e = le-leb room (length before) h in record { number = rw e p; run = rw e q }
+
+-- what was told of one answer is told of the same answer by another name
+pub answered-as : {A : Type 0} (room : ℕ) (tells : A → Told) (before : List ℤ) (n : ℕ) (after : List ℤ) → room ≤ length before → (a b : A) → a ≡ b → TellEnsures (tells a) before n after → Answered room (tells b) before n after
+answered-as room tells before n after h a b e t = subst (λ x. Answered room (tells x) before n after) e (answered room (tells a) before n after h (t .number) (t .run))

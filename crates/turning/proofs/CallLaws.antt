@@ -13,12 +13,12 @@ use Rattle.reaches.specs.Cells.{Reaches}
 use Rattle.swept.specs.declared.Swept.{Swept}
 use Rattle.swept.specs.declared.Swept.the-variants as S
 use Rattle.swept.specs.Swept.{sweptOf, sweptInto}
-use Rattle.swept.specs.Ranges.{SweptEnsures, IntoSo, IntoEnsures}
+use Rattle.swept.specs.Ranges.{RefusedSo, SweptEnsures, IntoSo, IntoEnsures}
 use Rattle.swept.proofs.SweptLaws.{answered-into}
 use Rattle.turning.specs.Answers.{TellEnsures, Answered, atByte, atUnit, sweepTold}
-use Rattle.turning.specs.Calls.{numberIn, byteIn, unitIn, stepIn, TakenApart, SweepCalled, RunCalled}
+use Rattle.turning.specs.Calls.{numberIn, byteIn, unitIn, stepIn, ByteTold, TakenApart, SweepCalled, RunCalled}
 use Rattle.turning.specs.Inner.{SweptFits}
-use Rattle.turning.proofs.AnswerLaws.{too-short, answered}
+use Rattle.turning.proofs.AnswerLaws.{too-short, answered-as}
 
 -- a number below 256, with a byte, or with a unit below 256 and a step
 byte-apart : (n p : ℕ) → n < 256 → (numberIn (atByte n p) ≡ n) × (byteIn (atByte n p) ≡ p)
@@ -28,6 +28,9 @@ unit-apart : (n u k : ℕ) → n < 256 → u < 256 → (numberIn (atUnit n u k) 
 unit-apart n u k h g = (omega arith, omega arith, omega arith)
 
 module _ (s : List ℕ) where
+  pub record-refused : (n p : ℕ) → RefusedSo s n p → ByteTold (atByte n p) n p
+  record-refused n p h = let e = byte-apart n p (omega (arith, h .number .1)) in record { number = e .0; byte = e .1; named = inl (h .number) }
+
   taken-apart : (a : Swept) → IntoSo s a → TakenApart (sweepTold a .number) a
   taken-apart (S.Finished f) h = refl
   taken-apart (S.Stopped n u k) h = let e = unit-apart n u k (below (h .number)) (omega (arith, h .unit .1)) in record { number = e .0; unit = e .1; step = e .2; named = h }
@@ -35,7 +38,7 @@ module _ (s : List ℕ) where
       below : (n ≡ 22) ⊎ (n ≡ 23) → n < 256
       below (inl e) = omega arith
       below (inr e) = omega arith
-  taken-apart (S.Refused n p) (inl h) = let e = byte-apart n p (omega (arith, h .number .1)) in record { number = e .0; byte = e .1; named = inl (h .number) }
+  taken-apart (S.Refused n p) (inl h) = record-refused n p h
   taken-apart (S.Refused n p) (inr h) = let e = byte-apart n p (omega (arith, h .0)) in record { number = e .0; byte = e .1; named = inr h }
 
   pub fits : (a : Swept) → IntoSo s a → SweptFits a
@@ -58,7 +61,7 @@ module _ (s : List ℕ) where
     -- an answer told
     module _ (h : 8 ≤ length before) (a : Swept) (n : ℕ) (after : List ℤ) (t : TellEnsures (sweepTold a) before n after) where
       told-so : (b : Swept) → a ≡ b → Answered 8 (sweepTold b) before n after
-      told-so b e = subst (λ (x : Swept). Answered 8 (sweepTold x) before n after) e (answered 8 (sweepTold a) before n after h (t .number) (t .run))
+      told-so b e = answered-as 8 sweepTold before n after h a b e t
 
       apart-so : (b : Swept) → a ≡ b → IntoSo s a → TakenApart n b
       apart-so b e i = subst (TakenApart n) e (subst (λ (m : ℕ). TakenApart m a) (sym (t .number)) (taken-apart a i))

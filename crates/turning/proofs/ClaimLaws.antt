@@ -1,8 +1,8 @@
 -- A refusal writes nothing.
-use Prim.Native.Nat.{ℕ, zero, suc}
+use Prim.Native.Nat.{ℕ, zero, suc, _≤_}
 use mathlib.Core.Path.{_≡_, refl, _∙_, ap}
 use mathlib.Core.Bool.{Bool, true, false}
-use mathlib.Core.List.{List, []}
+use mathlib.Core.List.{List, [], _∷_}
 use mathlib.Core.Logic.{_⊎_, inl, inr}
 use native.Mathlib.Omega.{arith}
 use borrow.Author.Tests.{leb-true}
@@ -26,9 +26,19 @@ use Rattle.run.specs.Run.{ranBy, ranOver, ranAnswer, runRefusal, jobPath, jobCo
 use Rattle.swept.specs.declared.Swept.{Swept}
 use Rattle.swept.specs.declared.Swept.the-variants as S
 use Rattle.swept.specs.Swept.{sweptRun, sweptOf, sweptInto, pathInto, reachesInto}
+use Rattle.bogie.specs.declared.Setting.{Setting}
+use Rattle.bogie.specs.declared.Listed.{Listed}
+use Rattle.bogie.specs.declared.Listed.the-variants as L
+use Rattle.bogie.specs.Settings.{Rail, lastSetting, jobSet}
+use Rattle.bogie.specs.Ranking.{listedOf}
+use Rattle.bogie.specs.List.{listRefusal, rankedSettings, listAnswer}
+use Rattle.offered.specs.declared.Offered.{Offered}
+use Rattle.offered.specs.declared.Offered.the-variants as O
+use Rattle.offered.specs.Offered.{offeredInto, pathInto as listPath, reachesInto as listReaches}
 use Rattle.turning.specs.Answers.{Told, Answered, sweepTold, pathTold, unitTold}
 use Rattle.turning.specs.Calls.{UnitTold, TakenApart, RunCalled}
-use Rattle.turning.specs.Claims.{BeforeWalk, RefusalWritesNothing}
+use Rattle.turning.specs.Settings.{listTold, settingsTold, ListApart, OfferApart, SettingsCalled}
+use Rattle.turning.specs.Claims.{BeforeWalk, BeforeWalks, RefusalWritesNothing}
 
 -- an answer that has entries only beside 0
 kept : (room : ℕ) (t : Told) → ((t .number ≡ 0 → ⊥) → t .entries ≡ []) → (before : List ℤ) (n : ℕ) (after : List ℤ) → Answered room t before n after → (n ≡ 0 → ⊥) → after ≡ before
@@ -50,6 +60,15 @@ path-bare (P.Refused n) h = refl
 unit-bare : (t : UnitTurn) → (unitTold t .number ≡ 0 → ⊥) → unitTold t .entries ≡ []
 unit-bare (U.Turned d) h = absurd (h refl)
 unit-bare (U.Refused n) h = refl
+
+-- runs that are left alone, whether or not the answer run has the room
+where-room : (room : ℕ) (before : List ℤ) {p q : PathRuns} {r s : Reaches} (p' : PathRuns) (r' : Reaches) → p' ≡ pick (leb room (length before)) q p → r' ≡ pick (leb room (length before)) s r
+    → (room ≤ length before → (q ≡ p) × (s ≡ r)) → (p' ≡ p) × (r' ≡ r)
+where-room room before {p} {q} {r} {s} p' r' e f h = by (leb room (length before)) refl e f
+  where
+    by : (b : Bool) → leb room (length before) ≡ b → p' ≡ pick b q p → r' ≡ pick b s r → (p' ≡ p) × (r' ≡ r)
+    by true z f g = let u = h (leb-true room (length before) z) in (f ∙ u .0, g ∙ u .1)
+    by false z f g = (f, g)
 
 -- such a number tells no walk
 module _ (a : ℕ) (h : a ≡ 0 → ⊥) (m : BeforeWalk a) where
@@ -75,11 +94,40 @@ module _ (a : ℕ) (h : a ≡ 0 → ⊥) (m : BeforeWalk a) where
         by (suc f) t = (refl, refl)
 
     runs-kept : (s : List ℕ) (before : List ℤ) (p' : PathRuns) (r' : Reaches) (after : List ℤ) → RunCalled s p r before a p' r' after → (p' ≡ p) × (r' ≡ r)
-    runs-kept s before p' r' after k = by (leb 8 (length before)) refl (k .path) (k .reaches)
+    runs-kept s before p' r' after k = where-room 8 before p' r' (k .path) (k .reaches) (λ g. untouched (readJob s) (k .apart g))
+
+-- ---- a list
+
+list-bare : (l : Listed) → (listTold l .number ≡ 0 → ⊥) → listTold l .entries ≡ []
+list-bare (L.One a) h = absurd (h refl)
+list-bare (L.Two a b) h = absurd (h refl)
+list-bare (L.Three a b c) h = absurd (h refl)
+list-bare (L.Refused n) h = refl
+
+settings-bare : (a : Offered) → (settingsTold a .number ≡ 0 → ⊥) → settingsTold a .entries ≡ []
+settings-bare (O.Listed l) h = list-bare l h
+settings-bare (O.Refused n p) h = refl
+
+-- such a number tells no list of walks
+module _ (a : ℕ) (h : a ≡ 0 → ⊥) (m : BeforeWalks a) where
+  no-list : (l : List Setting) → ListApart a (listedOf l) → ⊥
+  no-list [] t = omega (arith, t .number)
+  no-list (s ∷ []) t = h t
+  no-list (s ∷ u ∷ []) t = h t
+  no-list (s ∷ u ∷ w ∷ l) t = h t
+
+  module _ (b : Rail) (p : PathRuns) (r : Reaches) where
+    list-untouched : (x : Read Job) → OfferApart a (offeredInto x b p r) → (listPath x b p r ≡ p) × (listReaches x b p r ≡ r)
+    list-untouched (refused n k) t = (refl, refl)
+    list-untouched (got j e) t = by (listRefusal j b p r) t
       where
-        by : (b : Bool) → leb 8 (length before) ≡ b → p' ≡ pick b (pathInto (readJob s) p r) p → r' ≡ pick b (reachesInto (readJob s) p r) r → (p' ≡ p) × (r' ≡ r)
-        by true e f g = let u = untouched (readJob s) (k .apart (leb-true 8 (length before) e)) in (f ∙ u .0, g ∙ u .1)
-        by false e f g = (f, g)
+        by : (f : ℕ) → ListApart a (listAnswer f (listedOf (rankedSettings j b p r))) → (unlessRefused f (jobPath j p) p ≡ p) × (unlessRefused f (jobCourse (jobSet j (lastSetting b)) p r .runs) r ≡ r)
+        by zero t = absurd (no-list (rankedSettings j b p r) t)
+        by (suc f) t = (refl, refl)
+
+    list-kept : (s : List ℕ) (before : List ℤ) (p' : PathRuns) (r' : Reaches) (after : List ℤ) → SettingsCalled s b p r before a p' r' after → (p' ≡ p) × (r' ≡ r)
+    list-kept s before p' r' after k =
+        where-room 7 before p' r' (k .path) (k .reaches) (λ g. list-untouched (readJob s) (k .apart g))
 
 pub writes-nothing : RefusalWritesNothing
 writes-nothing = record {
@@ -88,4 +136,6 @@ writes-nothing = record {
   path-turn = λ t. kept 4 (pathTold t) (path-bare t);
   unit-turn = λ t. kept 2 (unitTold t) (unit-bare t);
   seven-runs = λ s p r before a p' r' after k h m. runs-kept a h m p r s before p' r' after k;
+  settings = λ s b p r before a p' r' after k. kept 7 (settingsTold (offeredInto (readJob s) b p r)) (settings-bare (offeredInto (readJob s) b p r)) before a after (k .told);
+  settings-runs = λ s b p r before a p' r' after k h m. list-kept a h m b p r s before p' r' after k;
 }

@@ -1,4 +1,5 @@
 pub mod AnswerLaws
 pub mod CallLaws
+pub mod SettingsLaws
 pub mod ClaimLaws
 pub mod Witnesses

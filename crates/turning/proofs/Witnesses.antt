@@ -4,7 +4,8 @@ use lib.IntN.{pos, negsuc}
 use Rattle.reaches.specs.declared.Best.the-variants.{Found}
 use Rattle.run.specs.declared.Finish.{Finish}
 use Rattle.swept.specs.declared.Swept.the-variants as S
-use Rattle.turning.specs.Inner.{Room, FinishFits, ByteFits, UnitFits, AnswerFits}
+use Rattle.offered.specs.declared.Offered.the-variants as O
+use Rattle.turning.specs.Inner.{Room, FinishFits, ByteFits, UnitFits, AnswerFits, OfferFits}
 
 abbrev longest : Finish
 longest = record {
@@ -28,3 +29,6 @@ unit-met = record { unit = omega arith; step = omega arith }
 
 answer-met : AnswerFits (S.Stopped 23 4 2000) 8
 answer-met = record { room = room-met; ranges = unit-met }
+
+offer-met : OfferFits (O.Refused 10 1024) 7
+offer-met = record { room = record { room = omega arith }; ranges = byte-met }

@@ -7,12 +7,18 @@ use Rattle.heading.specs.declared.PathTurn.{PathTurn}
 use Rattle.unit.specs.declared.UnitTurn.{UnitTurn}
 use Rattle.path.specs.Laying.{PathRuns}
 use Rattle.reaches.specs.Cells.{Reaches}
+use Rattle.bogie.specs.Settings.{Rail}
 use Rattle.turning.specs.Answers.{Answered, pathTold, unitTold}
 use Rattle.turning.specs.Calls.{numberIn, SweepCalled, RunCalled}
+use Rattle.turning.specs.Settings.{SettingsCalled}
 
 -- refused before the walk begins: the job by 1 to 10, or a run too short by 21
 abbrev pub BeforeWalk : ℕ → Type 0
 BeforeWalk a = numberIn a ≤ 21
+
+-- a list refused before any walk: the job by 1 to 10, a run too short by 21, the rail by 29
+abbrev pub BeforeWalks : ℕ → Type 0
+BeforeWalks a = numberIn a ≤ 29
 
 -- "nothing is written" (01, "Why a job is turned down")
 pub record RefusalWritesNothing : Type 0 where
@@ -25,3 +31,9 @@ pub record RefusalWritesNothing : Type 0 where
   -- and none of the seven runs where it is refused before the walk begins
   pub seven-runs : (s : List ℕ) (p : PathRuns) (r : Reaches) (before : List ℤ) (a : ℕ) (p' : PathRuns) (r' : Reaches) (after : List ℤ)
       → RunCalled s p r before a p' r' after → (a ≡ 0 → ⊥) → BeforeWalk a → (p' ≡ p) × (r' ≡ r)
+  -- a list's answer run likewise
+  pub settings : (s : List ℕ) (b : Rail) (p : PathRuns) (r : Reaches) (before : List ℤ) (a : ℕ) (p' : PathRuns) (r' : Reaches) (after : List ℤ)
+      → SettingsCalled s b p r before a p' r' after → (a ≡ 0 → ⊥) → after ≡ before
+  -- and none of its seven runs where it is refused before any walk; on 30 they hold the last walk (02, N1: "30 included despite demand 1")
+  pub settings-runs : (s : List ℕ) (b : Rail) (p : PathRuns) (r : Reaches) (before : List ℤ) (a : ℕ) (p' : PathRuns) (r' : Reaches) (after : List ℤ)
+      → SettingsCalled s b p r before a p' r' after → (a ≡ 0 → ⊥) → BeforeWalks a → (p' ≡ p) × (r' ≡ r)

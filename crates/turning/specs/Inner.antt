@@ -4,6 +4,8 @@ use Rattle.run.specs.declared.Finish.{Finish}
 use Rattle.swept.specs.declared.Swept.{Swept}
 use Rattle.swept.specs.declared.Swept.the-variants as S
 use Rattle.swept.specs.Ranges.{FinishedSo}
+use Rattle.offered.specs.declared.Offered.{Offered}
+use Rattle.offered.specs.declared.Offered.the-variants as O
 
 -- k entries from `at` on, in a run of n
 pub record Room (at k n : ℕ) : Type 0 where
@@ -30,3 +32,11 @@ SweptFits (S.Refused n p) = ByteFits p
 pub record AnswerFits (a : Swept) (n : ℕ) : Type 0 where
   pub room : Room 0 8 n
   pub ranges : SweptFits a
+
+abbrev pub OfferedFits : Offered → Type 0
+OfferedFits (O.Listed l) = Unit {0}
+OfferedFits (O.Refused n p) = ByteFits p
+
+pub record OfferFits (a : Offered) (n : ℕ) : Type 0 where
+  pub room : Room 0 7 n
+  pub ranges : OfferedFits a

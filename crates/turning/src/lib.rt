@@ -1,4 +1,6 @@
 // The turning check for programs in C and Rust: numbers and slices in, a number back, and an answer in a lent run.
+pub mod settings;
+
 use heading::PathTurn;
 use plane::Vec2;
 use reaches::Best;

@@ -1,0 +1,70 @@
+-- What a call of `turning_settings` comes to (02, N1): the number, the list in the answer run, and the caller's seven runs.
+use Prim.Native.Nat.{ℕ, _≤_}
+use mathlib.Core.Path.{_≡_}
+use mathlib.Core.List.{List, [], _∷_, _++_}
+use mathlib.Core.Logic.{_⊎_}
+use lib.ListN.{length}
+use lib.Dec.{leb}
+use lib.IntN.{ℤ, pos}
+use Rattle.number.specs.Read.{pick}
+use Rattle.job_reader.specs.Record.{readJob}
+use Rattle.path.specs.Laying.{PathRuns}
+use Rattle.reaches.specs.Cells.{Reaches}
+use Rattle.bogie.specs.declared.Setting.{Setting}
+use Rattle.bogie.specs.declared.Listed.{Listed}
+use Rattle.bogie.specs.declared.Listed.the-variants as L
+use Rattle.bogie.specs.Settings.{Rail}
+use Rattle.offered.specs.declared.Offered.{Offered}
+use Rattle.offered.specs.declared.Offered.the-variants as O
+use Rattle.offered.specs.Offered.{offeredInto, pathInto, reachesInto}
+use Rattle.offered.specs.Ranges.{ListedSo}
+use Rattle.turning.specs.Answers.{Told, told, Answered, atByte}
+use Rattle.turning.specs.Calls.{numberIn, byteIn, ByteTold}
+
+-- wheelbase and widest width
+abbrev pub settingEntries : Setting → List ℤ
+settingEntries s = pos (s .wheelbase) ∷ s .width ∷ []
+
+-- zeros after the last that is listed
+abbrev pub noSetting : Setting
+noSetting = record { wheelbase = 0; width = pos 0 }
+
+-- how many are listed, and the three, best first
+abbrev pub threeEntries : ℤ → Setting → Setting → Setting → List ℤ
+threeEntries n a b c = n ∷ (settingEntries a ++ (settingEntries b ++ settingEntries c))
+
+-- 0 with the list; a refusal writes nothing
+abbrev pub listTold : Listed → Told
+listTold (L.One a) = told 0 (threeEntries (pos 1) a noSetting noSetting)
+listTold (L.Two a b) = told 0 (threeEntries (pos 2) a b noSetting)
+listTold (L.Three a b c) = told 0 (threeEntries (pos 3) a b c)
+listTold (L.Refused n) = told n []
+
+-- a refused record's number has the byte beside it
+abbrev pub settingsTold : Offered → Told
+settingsTold (O.Listed l) = listTold l
+settingsTold (O.Refused n p) = told (atByte n p) []
+
+-- by 21, 29 or 30, without a byte
+pub record ListTold (a n : ℕ) : Type 0 where
+  pub number : numberIn a ≡ n
+  pub byte : byteIn a ≡ 0
+  pub named : ListedSo (L.Refused n)
+
+-- the number answered tells which answer it was, and what stands beside a refusal
+abbrev pub ListApart : ℕ → Listed → Type 0
+ListApart a (L.One s) = a ≡ 0
+ListApart a (L.Two s t) = a ≡ 0
+ListApart a (L.Three s t u) = a ≡ 0
+ListApart a (L.Refused n) = ListTold a n
+
+abbrev pub OfferApart : ℕ → Offered → Type 0
+OfferApart a (O.Listed l) = ListApart a l
+OfferApart a (O.Refused n p) = ByteTold a n p
+
+-- what `turning_settings` ensures of a job's bytes s and a rail b; the seven runs stay where the answer run is too short
+pub record SettingsCalled (s : List ℕ) (b : Rail) (p : PathRuns) (r : Reaches) (before : List ℤ) (a : ℕ) (p' : PathRuns) (r' : Reaches) (after : List ℤ) : Type 0 where
+  pub told : Answered 7 (settingsTold (offeredInto (readJob s) b p r)) before a after
+  pub apart : 7 ≤ length before → OfferApart a (offeredInto (readJob s) b p r)
+  pub path : p' ≡ pick (leb 7 (length before)) (pathInto (readJob s) b p r) p
+  pub reaches : r' ≡ pick (leb 7 (length before)) (reachesInto (readJob s) b p r) r
