@@ -2,6 +2,7 @@
 // answers and every entry of the lent runs is held to the line.
 // A line is the kind of the call, what is handed over, ` = ` and what is answered, a run being its length and then its entries. The answer begins
 // with the refusal's number or 0; beside a refusal what is answered by value stands as zeros, and a record or a run as it was handed in.
+mod lists;
 mod others;
 
 use libc::STDOUT_FILENO;
@@ -32,6 +33,7 @@ fn make_call(line: &[u8], kind: usize, c: Cursor) -> Cursor {
         5 => others::lay(line, c),
         6 => others::path_turn(line, c),
         7 => others::unit_turn(line, c),
+        8 => lists::list(line, c),
         _ => trial_tools::reading::tested(c, false),
     }
 }
@@ -66,12 +68,12 @@ fn counted(c: Count, right: bool, line: u64) -> Count {
 
 // Lines of no known kind are counted under 0.
 fn known(kind: usize) -> usize
-    ensures { λ r. ⌜ r < 8 ⌝ }
+    ensures { λ r. ⌜ r < 9 ⌝ }
 {
-    if kind < 8 { kind } else { 0 }
+    if kind < 9 { kind } else { 0 }
 }
 
-fn enter(counts: [Count; 8], o: Outcome, line: u64) -> [Count; 8] {
+fn enter(counts: [Count; 9], o: Outcome, line: u64) -> [Count; 9] {
     let kind = known(o.kind);
     let mut out = counts;
     let c = counts[kind];
@@ -79,12 +81,12 @@ fn enter(counts: [Count; 8], o: Outcome, line: u64) -> [Count; 8] {
     out
 }
 
-fn try_lines(text: &[u8]) -> [Count; 8] {
+fn try_lines(text: &[u8]) -> [Count; 9] {
     let mut counts = [Count {
         all: 0,
         right: 0,
         wrong: 0,
-    }; 8];
+    }; 9];
     let mut number: u64 = 0;
     let mut at: usize = 0;
     while at < text.len() {
@@ -126,7 +128,7 @@ fn report_others(c: Count) {
     }
 }
 
-fn report_all(counts: [Count; 8]) {
+fn report_all(counts: [Count; 9]) {
     report(b"place", counts[1]);
     report(b"step", counts[2]);
     report(b"widest", counts[3]);
@@ -134,14 +136,15 @@ fn report_all(counts: [Count; 8]) {
     report(b"lay", counts[5]);
     report(b"path turn", counts[6]);
     report(b"unit turn", counts[7]);
+    report(b"list", counts[8]);
     report_others(counts[0]);
 }
 
 // Room for the whole table.
-fn empty_text() -> [u8; 800000]
-    ensures { λ r. ⌜ 800000 ≡ length r ⌝ }
+fn empty_text() -> [u8; 1000000]
+    ensures { λ r. ⌜ 1000000 ≡ length r ⌝ }
 {
-    [0; 800000]
+    [0; 1000000]
 }
 
 fn main() {
@@ -154,7 +157,7 @@ fn main() {
     let mut text = empty_text();
     let n = io::read_full(file, &mut text);
     libc::close(file);
-    if n == 800000 {
+    if n == 1000000 {
         io::write_all(STDOUT_FILENO, b"the table does not fit\n");
         return;
     }
