@@ -13,12 +13,12 @@ use Rattle.bogie.specs.declared.Setting.{Setting}
 use Rattle.bogie.specs.declared.Listed.{Listed}
 use Rattle.bogie.specs.declared.Listed.the-variants.{One, Two, Three, Refused}
 
--- a setting whose walk has a complete station is put before the others
+-- a setting whose walk came to its end with a complete station joins the others
 abbrev pub withWidest : ℕ → Best → List Setting → List Setting
 withWidest w Nothing others = others
 withWidest w (Found p) others = record { wheelbase = w; width = p .width } ∷ others
 
--- and so is none whose walk was stopped
+-- one whose walk was stopped does not
 abbrev pub withRun : ℕ → Ran → List Setting → List Setting
 withRun w (R.Finished f) others = withWidest w (f .widest) others
 withRun w (R.Stopped n u k) others = others
