@@ -2,7 +2,6 @@
 use Prim.Native.Nat.{ℕ, _≤_}
 use mathlib.Core.Path.{_≡_}
 use mathlib.Core.List.{List, [], _∷_, _++_}
-use mathlib.Core.Logic.{_⊎_}
 use lib.ListN.{length}
 use lib.Dec.{leb}
 use lib.IntN.{ℤ, pos}
