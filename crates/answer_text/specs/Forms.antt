@@ -7,8 +7,8 @@ use Rattle.reaches.specs.declared.Best.the-variants as B
 use Rattle.run.specs.declared.Finish.{Finish}
 use Rattle.run.specs.Worked.{workedFinish}
 use Rattle.swept.specs.declared.Swept.the-variants as S
-use Rattle.bogie.specs.declared.Setting.{Setting}
-use Rattle.bogie.specs.declared.Listed.the-variants as L
+use Rattle.ranking.specs.declared.Setting.{Setting}
+use Rattle.ranking.specs.declared.Listed.the-variants as L
 use Rattle.offered.specs.declared.Offered.the-variants as O
 use Rattle.answer_text.specs.Printed.{printed}
 use Rattle.answer_text.specs.Settings.{printedSettings}

@@ -2,9 +2,9 @@
 use Prim.Native.Nat.{ℕ}
 use mathlib.Core.List.{List, _++_}
 use Rattle.text.specs.Ascii.{ascii}
-use Rattle.bogie.specs.declared.Setting.{Setting}
-use Rattle.bogie.specs.declared.Listed.{Listed}
-use Rattle.bogie.specs.declared.Listed.the-variants as L
+use Rattle.ranking.specs.declared.Setting.{Setting}
+use Rattle.ranking.specs.declared.Listed.{Listed}
+use Rattle.ranking.specs.declared.Listed.the-variants as L
 use Rattle.offered.specs.declared.Offered.{Offered}
 use Rattle.offered.specs.declared.Offered.the-variants as O
 use Rattle.answer_text.specs.Printed.{after, signedAfter, refusedLine}

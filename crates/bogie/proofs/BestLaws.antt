@@ -1,10 +1,8 @@
 -- The claim about the list: of a job that is walked, and of one that is refused before any walk.
 use Prim.Native.Nat.{ℕ, zero, suc, _<_}
 use mathlib.Core.Path.{_≡_, refl, sym, _∙_, ap, subst, subst⁻¹}
-use mathlib.Core.Logic.{inl}
-use mathlib.Core.List.{List, [], _∷_}
+use mathlib.Core.List.{List}
 use native.Mathlib.Omega.{arith}
-use lib.ListN.{take, length-take}
 use lib.IntN.{ℤ}
 use Rattle.job.specs.declared.Job.{Job}
 use Rattle.path.specs.Stations.{stations}
@@ -12,70 +10,55 @@ use Rattle.path.specs.Laying.{PathRuns}
 use Rattle.reaches.specs.Cells.{Reaches}
 use Rattle.run.specs.declared.Ran.{Ran}
 use Rattle.run.specs.Run.{jobPath, jobCourse}
-use Rattle.bogie.specs.declared.Setting.{Setting}
-use Rattle.bogie.specs.declared.Listed.{Listed}
-use Rattle.bogie.specs.declared.Listed.the-variants as L
+use Rattle.ranking.specs.declared.Setting.{Setting}
+use Rattle.ranking.specs.declared.Listed.{Listed}
+use Rattle.ranking.specs.declared.Listed.the-variants as L
 use Rattle.bogie.specs.Settings.{Rail, settingAt, lastSetting, jobSet}
-use Rattle.bogie.specs.Ranking.{fitting, listedOf, settingsIn}
+use Rattle.ranking.specs.Ranking.{listedOf}
+use Rattle.bogie.specs.Fitting.{fitting}
 use Rattle.bogie.specs.List.{listRefusal, ranAt, rankedSettings}
-use Rattle.bogie.specs.Best.{Among, Reached, RunReaches, Walked, BestOf, BestSettings}
+use Rattle.ranking.specs.Best.{Among, BestOfThese}
+use Rattle.bogie.specs.Best.{Reached, RunReaches, Walked, BestOf, BestSettings}
 use Rattle.bogie.proofs.RailLaws.{setting-grows}
-use Rattle.bogie.proofs.RankLaws.{Sorted, ranked-from, ranked-has, ranked-sorted, sorted-in-order, take-from, take-sorted, taken-or-beaten, listed-three}
+use Rattle.ranking.proofs.RankLaws.{best-three}
 use Rattle.bogie.proofs.FittingLaws.{settingOf, Fits, fitting-from, fitting-has, fitting-distinct}
 use Rattle.bogie.proofs.RefusalLaws.{refusal-most, is-walked, none-refused, run-first, limits-next, none-at, run-is, is-run}
-
--- 30 exactly where there is none to list
-listed-none : (l : List Setting) → listedOf l ≡ L.Refused 30 → (s : Setting) → Among s l → ⊥
-listed-none l e s m = by l (sym (listed-three l) ∙ ap settingsIn e) m
-  where
-    by : (l : List Setting) → take 3 l ≡ [] → Among s l → ⊥
-    by [] e m = m
-    by (t ∷ l) e m = let z : _≡_ {A = ℕ} 0 1 = cc in omega arith
-
-none-listed : (l : List Setting) → ((s : Setting) → Among s l → ⊥) → listedOf l ≡ L.Refused 30
-none-listed [] h = refl
-none-listed (s ∷ l) h = absurd (h s (inl refl))
 
 module _ (j : Job) (b : Rail) (p : PathRuns) (r : Reaches) (walked : Walked j b p r) where
   abbrev fits : List Setting
   fits = fitting (ranAt j p r) (settingAt b) (b .number)
-
-  abbrev all : List Setting
-  all = rankedSettings j b p r
 
   -- whatever a run at a setting answers is what its walk comes to
   run-reaches : (s : Setting) (f : Fits (ranAt j p r) (settingAt b) (b .number) s) → RunReaches j p r (settingAt b (f .index)) (s .width)
   run-reaches s f a q t e =
       subst⁻¹ (λ (x : Ran). Reached x (s .width)) (is-run (jobSet j (settingAt b (f .index))) p r (none-at j b p r walked (f .index) (f .inside)) e .0) (f .reached)
 
-  reached : (i : ℕ) (width : ℤ) → i < b .number → RunReaches j p r (settingAt b i) width → Among (settingOf (settingAt b i) width) all
+  reached : (i : ℕ) (width : ℤ) → i < b .number → RunReaches j p r (settingAt b i) width → Among (settingOf (settingAt b i) width) fits
   reached i width l h =
-      let k = jobSet j (settingAt b i) in
-      ranked-has (settingOf (settingAt b i) width) fits
-      (fitting-has (ranAt j p r) (settingAt b) (b .number) i width l (h _ _ _ (run-is k p r (none-at j b p r walked i l))))
+      fitting-has (ranAt j p r) (settingAt b) (b .number) i width l (h _ _ _ (run-is (jobSet j (settingAt b i)) p r (none-at j b p r walked i l)))
 
-  fits-of : (s : Setting) → Among s all → Fits (ranAt j p r) (settingAt b) (b .number) s
-  fits-of s m = fitting-from (ranAt j p r) (settingAt b) (b .number) s (ranked-from s fits m)
+  fits-of : (s : Setting) → Among s fits → Fits (ranAt j p r) (settingAt b) (b .number) s
+  fits-of s m = fitting-from (ranAt j p r) (settingAt b) (b .number) s m
 
-  sorted : Sorted all
-  sorted = ranked-sorted fits (fitting-distinct (ranAt j p r) (settingAt b) (λ i k l. setting-grows b i k (walked .limits .pitch) l) (b .number))
+  best : BestOfThese fits (listedOf (rankedSettings j b p r))
+  best = best-three fits (fitting-distinct (ranAt j p r) (settingAt b) (λ i k l. setting-grows b i k (walked .limits .pitch) l) (b .number))
 
-  best-listed : (p' : PathRuns) (r' : Reaches) → p' ≡ jobPath j p → r' ≡ jobCourse (jobSet j (lastSetting b)) p r .runs → BestOf j b p r (listedOf all) p' r'
+  best-listed : (p' : PathRuns) (r' : Reaches) → p' ≡ jobPath j p → r' ≡ jobCourse (jobSet j (lastSetting b)) p r .runs → BestOf j b p r (listedOf (rankedSettings j b p r)) p' r'
   unfolding stations
   best-listed p' r' laid left = record {
     settings = λ s m.
-        let f = fits-of s (take-from s 3 all (subst (Among s) (listed-three all) m)) in
+        let f = fits-of s (best .from s m) in
         record {
           index = f .index;
           inside = f .inside;
           wheelbase = f .wheelbase;
           run = subst⁻¹ (λ (w : ℕ). RunReaches j p r w (s .width)) (f .wheelbase) (run-reaches s f);
         };
-    three = rw (listed-three all) (omega (arith, length-take 3 all));
-    ordered = rw (listed-three all) (sorted-in-order (take 3 all) (take-sorted 3 all sorted));
-    all = λ _ i width l h. rw (listed-three all) (taken-or-beaten (settingOf (settingAt b i) width) 3 all sorted (reached i width l h));
-    none = λ e. (walked, λ i width l h. listed-none all e (settingOf (settingAt b i) width) (reached i width l h));
-    only = λ _ h. none-listed all (λ s m. let f = fits-of s m in h (f .index) (s .width) (f .inside) (run-reaches s f));
+    three = best .three;
+    ordered = best .ordered;
+    all = λ _ i width l h. best .all (settingOf (settingAt b i) width) (reached i width l h);
+    none = λ e. (walked, λ i width l h. best .none e (settingOf (settingAt b i) width) (reached i width l h));
+    only = λ _ h. best .only (λ s m. let f = fits-of s m in h (f .index) (s .width) (f .inside) (run-reaches s f));
     runs = λ _ i l a q s e.
         let last : settingAt b i ≡ lastSetting b = ap (settingAt b) (omega (arith, l)) in
         let k = is-run (jobSet j (settingAt b i)) p r (none-at j b p r walked i (omega (arith, l))) e in

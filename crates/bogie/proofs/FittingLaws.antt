@@ -10,10 +10,11 @@ use Rattle.reaches.specs.declared.Best.{Best}
 use Rattle.reaches.specs.declared.Best.the-variants.{Nothing, Found}
 use Rattle.run.specs.declared.Ran.{Ran}
 use Rattle.run.specs.declared.Ran.the-variants as R
-use Rattle.bogie.specs.declared.Setting.{Setting}
-use Rattle.bogie.specs.Ranking.{withWidest, withRun, fitting}
-use Rattle.bogie.specs.Best.{Among, Reached}
-use Rattle.bogie.proofs.RankLaws.{Distinct}
+use Rattle.ranking.specs.declared.Setting.{Setting}
+use Rattle.bogie.specs.Fitting.{withWidest, withRun, fitting}
+use Rattle.ranking.specs.Best.{Among}
+use Rattle.bogie.specs.Best.{Reached}
+use Rattle.ranking.specs.Best.{Distinct}
 
 abbrev pub settingOf : ℕ → ℤ → Setting
 settingOf w width = record { wheelbase = w; width = width }

@@ -3,8 +3,6 @@ pub mod FaultsKept
 pub mod RailLaws
 pub mod Forgotten
 pub mod WalksLaws
-pub mod OrderLaws
-pub mod RankLaws
 pub mod FittingLaws
 pub mod RefusalLaws
 pub mod ListLaws

@@ -20,8 +20,8 @@ use Rattle.reaches.specs.Cells.{Reaches, lengthsOf}
 use Rattle.stations.specs.Placing.{callOf}
 use Rattle.run.specs.Run.{runRefusal, jobPath}
 use Rattle.run.proofs.RunLaws.{runnable, all-passed, tests-passed}
-use Rattle.bogie.specs.declared.Listed.{Listed}
-use Rattle.bogie.specs.declared.Listed.the-variants as B
+use Rattle.ranking.specs.declared.Listed.{Listed}
+use Rattle.ranking.specs.declared.Listed.the-variants as B
 use Rattle.bogie.specs.Settings.{Rail, railAllowed}
 use Rattle.bogie.specs.List.{listRefusal, ListEnsures}
 use Rattle.bogie.specs.Walks.{runsAfter, Walkable, WalkEnsures}

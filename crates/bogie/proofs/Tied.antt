@@ -5,7 +5,7 @@ use contract.Lifetimes.{Lfts}
 use borrow.Fn.Kinds.{Dens, endedOf}
 use Rattle.path.specs.Laying.{pathRuns}
 use Rattle.reaches.specs.Cells.{reachRuns}
-use Rattle.bogie.specs.declared.Listed.{Listed}
+use Rattle.ranking.specs.declared.Listed.{Listed}
 use Rattle.bogie.specs.List.{ListEnsures}
 use Rattle.bogie.proofs.list_settings.Kinds as kinds
 use Rattle.bogie.proofs.list_settings.Reads as reads

@@ -21,10 +21,11 @@ use Rattle.run.specs.Walking.{Course, walkToEnd, stepsLeft}
 use Rattle.run.specs.Run.{walkOver, ranOver, Runnable, OverEnsures}
 use Rattle.run.proofs.WalkingLaws.{same-call}
 use Rattle.run.proofs.CourseLaws.{course-lengths}
-use Rattle.bogie.specs.declared.Listed.{Listed}
+use Rattle.ranking.specs.declared.Listed.{Listed}
 use Rattle.bogie.specs.Settings.{Rail, settingAt, vehicleSet}
-use Rattle.bogie.specs.declared.Listed.the-variants.{Refused}
-use Rattle.bogie.specs.Ranking.{withRun, fitting, ranked, listedOf, runEntered}
+use Rattle.ranking.specs.declared.Listed.the-variants.{Refused}
+use Rattle.ranking.specs.Ranking.{ranked, listedOf}
+use Rattle.bogie.specs.Fitting.{withRun, fitting, runEntered}
 use Rattle.bogie.specs.Walks.{overAt, runsAfter, WalkEnsures, LastUnit, Walkable}
 use Rattle.bogie.proofs.EnterLaws.{run-first}
 use Rattle.bogie.proofs.FaultsKept.{kept-vehicle}

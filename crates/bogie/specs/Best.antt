@@ -1,11 +1,8 @@
 -- The claim about the list (02, N1: "Demand 2 now covers this list"), over what `list_settings` and `run::run` ensure.
 use Prim.Native.Nat.{ℕ, _+_, _*_, _≤_, _<_}
 use mathlib.Core.Path.{_≡_}
-use mathlib.Core.Logic.{_⊎_}
-use mathlib.Core.List.{List, [], _∷_}
 use lib.ListN.{length}
 use lib.IntN.{ℤ}
-use lib.Signed.{_<ℤ_}
 use Rattle.job.specs.declared.Job.{Job}
 use Rattle.path.specs.Laying.{PathRuns}
 use Rattle.reaches.specs.Cells.{Reaches}
@@ -15,11 +12,12 @@ use Rattle.run.specs.declared.Finish.{Finish}
 use Rattle.run.specs.declared.Ran.{Ran}
 use Rattle.run.specs.declared.Ran.the-variants as R
 use Rattle.run.specs.Run.{runRefusal, RunEnsures}
-use Rattle.bogie.specs.declared.Setting.{Setting}
-use Rattle.bogie.specs.declared.Listed.{Listed}
-use Rattle.bogie.specs.declared.Listed.the-variants as L
+use Rattle.ranking.specs.declared.Setting.{Setting}
+use Rattle.ranking.specs.declared.Listed.{Listed}
+use Rattle.ranking.specs.declared.Listed.the-variants as L
+use Rattle.ranking.specs.Best.{InOrder, Among, ListedOrBeaten}
 use Rattle.bogie.specs.Settings.{Rail, settingAt, jobSet}
-use Rattle.bogie.specs.Ranking.{settingsIn}
+use Rattle.ranking.specs.Ranking.{settingsIn}
 use Rattle.bogie.specs.List.{ListEnsures}
 
 -- the limits: "a pitch of at least one tick", "1 to 32 settings", and each setting a wheelbase, in exact numbers
@@ -33,20 +31,6 @@ pub record InLimits (b : Rail) : Type 0 where
 pub record Walked (j : Job) (b : Rail) (p : PathRuns) (r : Reaches) : Type 0 where
   pub run : runRefusal j p r ≡ 0
   pub limits : InLimits b
-
--- "least widest width first, the shorter wheelbase first among equals"
-abbrev pub Before : Setting → Setting → Type 0
-Before s t = (s .width <ℤ t .width) ⊎ ((s .width ≡ t .width) × (s .wheelbase < t .wheelbase))
-
--- each strictly before the next, so that none stands twice
-abbrev pub InOrder : List Setting → Type 0
-InOrder [] = Unit {0}
-InOrder (s ∷ []) = Unit {0}
-InOrder (s ∷ t ∷ ts) = Before s t × InOrder (t ∷ ts)
-
-abbrev pub Among : Setting → List Setting → Type 0
-Among s [] = ⊥
-Among s (t ∷ ts) = (s ≡ t) ⊎ Among s ts
 
 -- "all that reach the last station with a complete station": finished, with a widest place of this width
 pub record Reached (a : Ran) (width : ℤ) : Type 0 where
@@ -66,10 +50,6 @@ pub record IsSetting (j : Job) (b : Rail) (p : PathRuns) (r : Reaches) (s : Sett
   pub inside : index < b .number
   pub wheelbase : s .wheelbase ≡ settingAt b index
   pub run : RunReaches j p r (s .wheelbase) (s .width)
-
--- listed; or three are, and each comes before it
-abbrev pub ListedOrBeaten : Setting → List Setting → Type 0
-ListedOrBeaten s l = Among s l ⊎ ((length l ≡ 3) × ((t : Setting) → Among t l → Before t s))
 
 -- no setting's run is finished with a complete station
 abbrev pub NoneReaches : Job → Rail → PathRuns → Reaches → Type 0

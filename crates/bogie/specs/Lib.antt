@@ -1,5 +1,5 @@
 pub mod Settings
-pub mod Ranking
+pub mod Fitting
 pub mod List
 pub mod Walks
 pub mod Best

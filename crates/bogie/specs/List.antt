@@ -11,11 +11,12 @@ use Rattle.reaches.specs.Cells.{Reaches}
 use Rattle.stations.specs.Placing.{unlessRefused}
 use Rattle.run.specs.declared.Ran.{Ran}
 use Rattle.run.specs.Run.{ranOver, runRefusal, jobPath, jobCourse}
-use Rattle.bogie.specs.declared.Setting.{Setting}
-use Rattle.bogie.specs.declared.Listed.{Listed}
-use Rattle.bogie.specs.declared.Listed.the-variants as L
+use Rattle.ranking.specs.declared.Setting.{Setting}
+use Rattle.ranking.specs.declared.Listed.{Listed}
+use Rattle.ranking.specs.declared.Listed.the-variants as L
 use Rattle.bogie.specs.Settings.{Rail, settingAt, lastSetting, railAllowed, jobSet}
-use Rattle.bogie.specs.Ranking.{fitting, ranked, listedOf}
+use Rattle.ranking.specs.Ranking.{ranked, listedOf}
+use Rattle.bogie.specs.Fitting.{fitting}
 
 -- "After the job's own faults and 21, it refuses with 29, before any walk"; 0 for none
 unfoldable pub listRefusal : Job → Rail → PathRuns → Reaches → ℕ

@@ -9,9 +9,10 @@ use Rattle.walk.specs.Tests.{lent, pathSound, vehicleSound}
 use Rattle.reaches.specs.Cells.{Reaches}
 use Rattle.run.specs.declared.Ran.{Ran}
 use Rattle.run.specs.Run.{ranOver, walkOver}
-use Rattle.bogie.specs.declared.Listed.{Listed}
+use Rattle.ranking.specs.declared.Listed.{Listed}
 use Rattle.bogie.specs.Settings.{Rail, settingAt, railAllowed, vehicleSet}
-use Rattle.bogie.specs.Ranking.{fitting, ranked, listedOf}
+use Rattle.ranking.specs.Ranking.{ranked, listedOf}
+use Rattle.bogie.specs.Fitting.{fitting}
 
 -- the run at a last wheelbase over a laid path
 abbrev pub overAt : ℕ → PathRuns → Vehicle → Reaches → ℕ → Ran

@@ -6,8 +6,8 @@ use lib.IntN.{ℤ, pos}
 use Rattle.path.specs.Laying.{PathRuns, pathRuns}
 use Rattle.reaches.specs.Cells.{Reaches, reachRuns}
 use Rattle.run.specs.Worked.{workedJob}
-use Rattle.bogie.specs.declared.Listed.{Listed}
-use Rattle.bogie.specs.declared.Listed.the-variants.{Two, Three, Refused}
+use Rattle.ranking.specs.declared.Listed.{Listed}
+use Rattle.ranking.specs.declared.Listed.the-variants.{Two, Three, Refused}
 use Rattle.bogie.specs.Settings.{Rail}
 use Rattle.bogie.specs.List.{ListEnsures}
 

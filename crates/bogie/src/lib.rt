@@ -3,6 +3,8 @@ use job::Job;
 use job::Unit;
 use job::Vehicle;
 use path::Laid;
+use ranking::Listed;
+use ranking::Setting;
 use reaches::Best;
 use run::Ran;
 ghost use mathlib.Core.Path.{_≡_};
@@ -10,25 +12,11 @@ ghost use Rattle.path.specs.Laying.{pathRuns};
 ghost use Rattle.reaches.specs.Cells.{reachRuns};
 ghost use Rattle.stations.specs.Placing.{callOf};
 ghost use Rattle.bogie.specs.Settings.{railAllowed, vehicleSet};
-ghost use Rattle.bogie.specs.Ranking.{isBefore, entered, runEntered};
+ghost use Rattle.bogie.specs.Fitting.{runEntered};
 ghost use Rattle.bogie.specs.List.{listRefusal, ListEnsures};
 ghost use Rattle.bogie.specs.Best.{BestSettings};
 ghost use Rattle.bogie.specs.Worked.{WorkedLists};
 ghost use Rattle.bogie.specs.Walks.{LastUnit, Walkable, WalkEnsures};
-
-// A setting: the last wheelbase, and the widest width of the walk with it.
-pub struct Setting {
-    pub wheelbase: u32,
-    pub width: i64,
-}
-
-// The settings listed, best first; or a refusal, 30 where there is none to list.
-pub enum Listed {
-    One(Setting),
-    Two(Setting, Setting),
-    Three(Setting, Setting, Setting),
-    Refused(u8),
-}
 
 // The limits of a rail of settings: as they only grow, the first and the last tell of all.
 fn rail_allowed(lowest: u32, pitch: u32, number: u32) -> bool
@@ -47,48 +35,6 @@ fn rail_allowed(lowest: u32, pitch: u32, number: u32) -> bool
     (5000 <= lowest) & (last <= 200000)
 }
 
-fn is_before(s: Setting, t: Setting) -> bool
-    ensures { λ r. ⌜ r ≡ isBefore s t ⌝ }
-{
-    (s.width < t.width) | ((s.width <= t.width) & (s.wheelbase < t.wheelbase))
-}
-
-// One more setting: it enters before the first that it beats, and no more than three stay.
-fn enter(s: Setting, l: Listed) -> Listed
-    ensures { λ r. ⌜ r ≡ entered s l ⌝ }
-{
-    match l {
-        Listed::One(a) => {
-            if is_before(s, a) {
-                return Listed::Two(s, a);
-            }
-            Listed::Two(a, s)
-        }
-        Listed::Two(a, b) => {
-            if is_before(s, a) {
-                return Listed::Three(s, a, b);
-            }
-            if is_before(s, b) {
-                return Listed::Three(a, s, b);
-            }
-            Listed::Three(a, b, s)
-        }
-        Listed::Three(a, b, c) => {
-            if is_before(s, a) {
-                return Listed::Three(s, a, b);
-            }
-            if is_before(s, b) {
-                return Listed::Three(a, s, b);
-            }
-            if is_before(s, c) {
-                return Listed::Three(a, b, s);
-            }
-            Listed::Three(a, b, c)
-        }
-        Listed::Refused(_) => Listed::One(s),
-    }
-}
-
 // A setting is listed where its walk came to the last station with a complete station.
 fn enter_run(wheelbase: u32, ran: Ran, l: Listed) -> Listed
     ensures { λ r. ⌜ r ≡ runEntered wheelbase ran l ⌝ }
@@ -100,7 +46,7 @@ fn enter_run(wheelbase: u32, ran: Ran, l: Listed) -> Listed
                 Best::Nothing => l,
                 Best::Found(p) => {
                     let width = p.width;
-                    enter(Setting { wheelbase, width }, l)
+                    ranking::enter(Setting { wheelbase, width }, l)
                 }
             }
         }

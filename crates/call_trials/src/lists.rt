@@ -1,7 +1,7 @@
 // Calls of the list of settings.
-use bogie::Listed;
-use bogie::Setting;
 use job::Job;
+use ranking::Listed;
+use ranking::Setting;
 use trial_tools::reading::Cursor;
 
 // What a line says of the bogie: the first wheelbase, what each next setting adds, and how many there are.

@@ -29,7 +29,7 @@ use Rattle.stations.specs.Stepping.{pointsAt, ifMade, StepEnsures}
 use Rattle.run.specs.declared.Ran.the-variants as R
 use Rattle.run.specs.Walking.{Course, walkOn}
 use Rattle.run.specs.Run.{runRefusal, jobPath, jobCourse}
-use Rattle.bogie.specs.declared.Listed.{Listed}
+use Rattle.ranking.specs.declared.Listed.{Listed}
 use Rattle.bogie.specs.Settings.{Rail, lastSetting, jobSet}
 use Rattle.bogie.specs.List.{listRefusal, ListEnsures}
 use Rattle.claim.specs.WholeRun.{Run, Ensured}

@@ -17,7 +17,7 @@ use Rattle.stations.specs.declared.PlaceAnswer.the-variants as P
 use Rattle.stations.specs.Placing.{PlaceEnsures}
 use Rattle.stations.specs.Stepping.{StepEnsures}
 use Rattle.run.specs.declared.Ran.the-variants as R
-use Rattle.bogie.specs.declared.Listed.{Listed}
+use Rattle.ranking.specs.declared.Listed.{Listed}
 use Rattle.bogie.specs.Settings.{Rail}
 use Rattle.bogie.specs.List.{ListEnsures}
 use Rattle.claim.specs.WholeRun.{Run, Ensured}

@@ -20,11 +20,11 @@ use Rattle.path.specs.Laying.{PathRuns, roomFor}
 use Rattle.walk.specs.Tests.{reachesLent}
 use Rattle.reaches.specs.Cells.{Reaches, lengthsOf}
 use Rattle.run.specs.Run.{runRefusal}
-use Rattle.bogie.specs.declared.Setting.{Setting}
-use Rattle.bogie.specs.declared.Listed.{Listed}
-use Rattle.bogie.specs.declared.Listed.the-variants as L
+use Rattle.ranking.specs.declared.Setting.{Setting}
+use Rattle.ranking.specs.declared.Listed.{Listed}
+use Rattle.ranking.specs.declared.Listed.the-variants as L
 use Rattle.bogie.specs.Settings.{Rail, railAllowed}
-use Rattle.bogie.specs.Ranking.{listedOf}
+use Rattle.ranking.specs.Ranking.{listedOf}
 use Rattle.bogie.specs.List.{listRefusal, rankedSettings, listAnswer, ListEnsures}
 use Rattle.swept.specs.Swept.{emptyPath, emptyReaches}
 use Rattle.swept.proofs.RangeLaws.{refused-so}

@@ -8,10 +8,10 @@ use Rattle.path.specs.Laying.{PathRuns}
 use Rattle.reaches.specs.Cells.{Reaches}
 use Rattle.stations.specs.Placing.{unlessRefused}
 use Rattle.run.specs.Run.{jobPath, jobCourse}
-use Rattle.bogie.specs.declared.Listed.{Listed}
-use Rattle.bogie.specs.declared.Listed.the-variants as L
+use Rattle.ranking.specs.declared.Listed.{Listed}
+use Rattle.ranking.specs.declared.Listed.the-variants as L
 use Rattle.bogie.specs.Settings.{Rail, lastSetting, railAllowed, jobSet}
-use Rattle.bogie.specs.Ranking.{listedOf}
+use Rattle.ranking.specs.Ranking.{listedOf}
 use Rattle.bogie.specs.List.{listRefusal, rankedSettings, listAnswer}
 use Rattle.swept.specs.Swept.{emptyPath, emptyReaches}
 use Rattle.offered.specs.declared.Offered.{Offered}

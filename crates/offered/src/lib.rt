@@ -1,6 +1,6 @@
 // From a job's bytes and the numbers of a rail to the list of its settings.
-use bogie::Listed;
 use job_reader::ReadAnswer;
+use ranking::Listed;
 ghost use mathlib.Core.Path.{_≡_};
 ghost use Rattle.path.specs.Laying.{pathRuns};
 ghost use Rattle.reaches.specs.Cells.{reachRuns};

@@ -26,11 +26,11 @@ use Rattle.run.specs.Run.{ranBy, ranOver, ranAnswer, runRefusal, jobPath, jobCo
 use Rattle.swept.specs.declared.Swept.{Swept}
 use Rattle.swept.specs.declared.Swept.the-variants as S
 use Rattle.swept.specs.Swept.{sweptRun, sweptOf, sweptInto, pathInto, reachesInto}
-use Rattle.bogie.specs.declared.Setting.{Setting}
-use Rattle.bogie.specs.declared.Listed.{Listed}
-use Rattle.bogie.specs.declared.Listed.the-variants as L
+use Rattle.ranking.specs.declared.Setting.{Setting}
+use Rattle.ranking.specs.declared.Listed.{Listed}
+use Rattle.ranking.specs.declared.Listed.the-variants as L
 use Rattle.bogie.specs.Settings.{Rail, lastSetting, jobSet}
-use Rattle.bogie.specs.Ranking.{listedOf}
+use Rattle.ranking.specs.Ranking.{listedOf}
 use Rattle.bogie.specs.List.{listRefusal, rankedSettings, listAnswer}
 use Rattle.offered.specs.declared.Offered.{Offered}
 use Rattle.offered.specs.declared.Offered.the-variants as O

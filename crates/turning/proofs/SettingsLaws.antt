@@ -10,8 +10,8 @@ use lib.IntN.{ℤ}
 use Rattle.job_reader.specs.Record.{readJob}
 use Rattle.path.specs.Laying.{PathRuns}
 use Rattle.reaches.specs.Cells.{Reaches}
-use Rattle.bogie.specs.declared.Listed.{Listed}
-use Rattle.bogie.specs.declared.Listed.the-variants as L
+use Rattle.ranking.specs.declared.Listed.{Listed}
+use Rattle.ranking.specs.declared.Listed.the-variants as L
 use Rattle.bogie.specs.Settings.{Rail}
 use Rattle.offered.specs.declared.Offered.{Offered}
 use Rattle.offered.specs.declared.Offered.the-variants as O

@@ -1,7 +1,7 @@
 // The list of settings for programs in C and Rust.
-use bogie::Listed;
-use bogie::Setting;
 use offered::Offered;
+use ranking::Listed;
+use ranking::Setting;
 ghost use mathlib.Core.Path.{_≡_};
 ghost use lib.ListN.{length};
 ghost use lib.Seq.{sets};

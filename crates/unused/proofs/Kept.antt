@@ -24,9 +24,9 @@ use Rattle.stations.specs.Stepping.{StepEnsures}
 use Rattle.run.specs.Walking.{Course}
 use Rattle.run.specs.declared.Ran.{Ran}
 use Rattle.run.specs.Run.{ranBy, ranOver, runRefusal, jobPath, jobCourse, RunEnsures}
-use Rattle.bogie.specs.declared.Listed.{Listed}
+use Rattle.ranking.specs.declared.Listed.{Listed}
 use Rattle.bogie.specs.Settings.{Rail, settingAt, lastSetting, unitSet, vehicleSet, jobSet}
-use Rattle.bogie.specs.Ranking.{fitting}
+use Rattle.bogie.specs.Fitting.{fitting}
 use Rattle.bogie.specs.List.{listRefusal, ranAt, ListEnsures}
 use Rattle.unused.specs.Same.{SameVehicle, SameJob, SameRig}
 use Rattle.unused.specs.Unused.{SameCall, SameRun, Unused}

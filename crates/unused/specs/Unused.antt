@@ -23,7 +23,7 @@ use Rattle.stations.specs.Placing.{PlaceEnsures}
 use Rattle.stations.specs.Stepping.{StepEnsures}
 use Rattle.run.specs.declared.Ran.{Ran}
 use Rattle.run.specs.Run.{RunEnsures}
-use Rattle.bogie.specs.declared.Listed.{Listed}
+use Rattle.ranking.specs.declared.Listed.{Listed}
 use Rattle.bogie.specs.Settings.{Rail}
 use Rattle.bogie.specs.List.{ListEnsures}
 use Rattle.unused.specs.Same.{SameVehicle, SameJob, SameRig}

@@ -4,7 +4,8 @@ use borrow.Author.Needs.{needs}
 use Rattle.exact.proofs.Machine.{reread}
 use Rattle.reaches.specs.declared.Best.{Best}
 use Rattle.run.specs.declared.Ran.{Ran}
-use Rattle.bogie.specs.Ranking.{entered, runEntered, widestEntered}
+use Rattle.ranking.specs.Ranking.{entered}
+use Rattle.bogie.specs.Fitting.{runEntered, widestEntered}
 use Rattle.bogie.proofs.enter_run.Statement.{statement}
 use Rattle.bogie.proofs.enter_run.Tie as tie
 

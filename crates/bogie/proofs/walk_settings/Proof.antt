@@ -10,7 +10,8 @@ use Rattle.reaches.specs.Cells.{Reaches, reachRuns}
 use Rattle.reaches.proofs.CellLaws.{SameLengths}
 use Rattle.run.specs.Run.{OverEnsures}
 use Rattle.bogie.specs.Settings.{Rail, settingAt, vehicleSet}
-use Rattle.bogie.specs.Ranking.{fitting, ranked, listedOf}
+use Rattle.ranking.specs.Ranking.{ranked, listedOf}
+use Rattle.bogie.specs.Fitting.{fitting}
 use Rattle.bogie.specs.Walks.{overAt, runsAfter}
 use Rattle.bogie.proofs.RailLaws.{in-limits}
 use Rattle.bogie.proofs.WalksLaws.{runs-lengths, next-runnable, next-runs, next-listed, none-listed, last-unit, all-walked}

@@ -19,7 +19,8 @@ use Rattle.reaches.specs.Widest.{widestAmong}
 use Rattle.run.specs.Walking.{walkOn}
 use Rattle.run.specs.Run.{runRefusal}
 use Rattle.bogie.specs.Settings.{settingsAllowed, railAllowed}
-use Rattle.bogie.specs.Ranking.{fitting, insert, ranked}
+use Rattle.ranking.specs.Ranking.{insert, ranked}
+use Rattle.bogie.specs.Fitting.{fitting}
 use Rattle.bogie.specs.List.{listRefusal}
 use Rattle.bogie.specs.Worked.{WorkedLists}
 use Rattle.bogie.proofs.worked_lists.Statement.{statement}

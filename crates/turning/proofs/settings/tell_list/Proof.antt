@@ -6,7 +6,7 @@ use lib.Seq.{sets}
 use lib.IntN.{ℤ, pos}
 use denote.Ref.{now}
 use borrow.Author.Needs.{needs}
-use Rattle.bogie.specs.declared.Listed.{Listed}
+use Rattle.ranking.specs.declared.Listed.{Listed}
 use Rattle.turning.specs.Answers.{TellEnsures}
 use Rattle.turning.specs.Settings.{threeEntries, listTold}
 use Rattle.turning.proofs.settings.tell_list.Statement.{statement}

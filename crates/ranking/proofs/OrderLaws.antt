@@ -10,9 +10,9 @@ use lib.Ieee.Bits.{is-true}
 use lib.IntN.{ℤ}
 use lib.Signed.{ltZ, leZ, _<ℤ_, ltZ-yes, <ℤ-≤ℤ-trans}
 use Rattle.exact.proofs.Order.{of-true, of-false, leZ-true, ltZ-true-≤, ltZ-false, ≤ℤ-antisym}
-use Rattle.bogie.specs.declared.Setting.{Setting}
-use Rattle.bogie.specs.Ranking.{isBefore}
-use Rattle.bogie.specs.Best.{Before}
+use Rattle.ranking.specs.declared.Setting.{Setting}
+use Rattle.ranking.specs.Ranking.{isBefore}
+use Rattle.ranking.specs.Best.{Before}
 
 not-≤ : (a b : ℤ) (t : Bool) → ltZ b a ≡ t → leZ a b ≡ false → b <ℤ a
 not-≤ a b true q e = ltZ-yes (of-true q)

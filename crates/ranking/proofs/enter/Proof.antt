@@ -1,9 +1,9 @@
--- `bogie::enter` meets its contract, by the list and by the settings that the new one comes before.
+-- `ranking::enter` meets its contract, by the list and by the settings that the new one comes before.
 use mathlib.Core.Path.{sym, _∙_}
 use borrow.Author.Needs.{needs}
-use Rattle.bogie.proofs.EnterLaws.{only-one, one-first, one-second, two-first, two-second, two-third, three-first, three-second, three-third, three-still}
-use Rattle.bogie.proofs.enter.Statement.{statement}
-use Rattle.bogie.proofs.enter.Tie as tie
+use Rattle.ranking.proofs.EnterLaws.{only-one, one-first, one-second, two-first, two-second, two-third, three-first, three-second, three-third, three-still}
+use Rattle.ranking.proofs.enter.Statement.{statement}
+use Rattle.ranking.proofs.enter.Tie as tie
 
 enum-known-l : tie.Need-enum-known-l
 enum-known-l c = search needs

@@ -1,15 +1,17 @@
 -- Settings put in order: the same ones, each before all that follow, and the first three of them.
 use Prim.Native.Nat.{ℕ, zero, suc}
-use mathlib.Core.Path.{_≡_, refl, ap, subst⁻¹}
+use mathlib.Core.Path.{_≡_, refl, sym, _∙_, ap, subst, subst⁻¹}
+use native.Mathlib.Omega.{arith}
 use mathlib.Core.Logic.{_⊎_, inl, inr, ⊎-elim}
 use mathlib.Core.Bool.{Bool, true, false}
 use mathlib.Core.List.{List, [], _∷_}
-use lib.ListN.{length, take}
+use lib.ListN.{length, take, length-take}
 use Rattle.number.specs.Read.{pick}
-use Rattle.bogie.specs.declared.Setting.{Setting}
-use Rattle.bogie.specs.Ranking.{isBefore, insert, ranked, listedOf, settingsIn}
-use Rattle.bogie.specs.Best.{Before, InOrder, Among}
-use Rattle.bogie.proofs.OrderLaws.{Told, told, before-trans}
+use Rattle.ranking.specs.declared.Setting.{Setting}
+use Rattle.ranking.specs.declared.Listed.the-variants.{Refused}
+use Rattle.ranking.specs.Ranking.{isBefore, insert, ranked, listedOf, settingsIn}
+use Rattle.ranking.specs.Best.{Before, InOrder, Among, Apart, Distinct, BestThree}
+use Rattle.ranking.proofs.OrderLaws.{Told, told, before-trans}
 
 -- ---- the same settings
 
@@ -50,14 +52,6 @@ Ahead s l = (t : Setting) → Among t l → Before s t
 abbrev pub Sorted : List Setting → Type 0
 Sorted [] = Unit {0}
 Sorted (s ∷ l) = Ahead s l × Sorted l
-
--- of another wheelbase than each of them
-abbrev pub Apart : Setting → List Setting → Type 0
-Apart s l = (t : Setting) → Among t l → s .wheelbase ≡ t .wheelbase → ⊥
-
-abbrev pub Distinct : List Setting → Type 0
-Distinct [] = Unit {0}
-Distinct (s ∷ l) = Apart s l × Distinct l
 
 insert-sorted : (s : Setting) (l : List Setting) → Apart s l → Sorted l → Sorted (insert s l)
 unfolding insert
@@ -106,3 +100,28 @@ listed-three [] = refl
 listed-three (a ∷ []) = refl
 listed-three (a ∷ b ∷ []) = refl
 listed-three (a ∷ b ∷ c ∷ l) = refl
+
+-- 30 exactly where there is none to list
+listed-none : (l : List Setting) → listedOf l ≡ Refused 30 → (s : Setting) → Among s l → ⊥
+listed-none l e s m = by l (sym (listed-three l) ∙ ap settingsIn e) m
+  where
+    by : (l : List Setting) → take 3 l ≡ [] → Among s l → ⊥
+    by [] e m = m
+    by (t ∷ l) e m = let z : _≡_ {A = ℕ} 0 1 = cc in omega arith
+
+none-listed : (l : List Setting) → ((s : Setting) → Among s l → ⊥) → listedOf l ≡ Refused 30
+none-listed [] h = refl
+none-listed (s ∷ l) h = absurd (h s (inl refl))
+
+pub best-three : BestThree
+best-three all d =
+    let o = ranked-sorted all d in
+    let e = listed-three (ranked all) in
+    record {
+      from = λ s m. ranked-from s all (take-from s 3 (ranked all) (subst (Among s) e m));
+      three = rw e (omega (arith, length-take 3 (ranked all)));
+      ordered = rw e (sorted-in-order (take 3 (ranked all)) (take-sorted 3 (ranked all) o));
+      all = λ s m. rw e (taken-or-beaten s 3 (ranked all) o (ranked-has s all m));
+      none = λ h s m. listed-none (ranked all) h s (ranked-has s all m);
+      only = λ h. none-listed (ranked all) (λ s m. h s (ranked-from s all m));
+    }

@@ -1,0 +1,3 @@
+pub mod EnterLaws
+pub mod OrderLaws
+pub mod RankLaws
