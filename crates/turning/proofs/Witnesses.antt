@@ -5,7 +5,8 @@ use Rattle.reaches.specs.declared.Best.the-variants.{Found}
 use Rattle.run.specs.declared.Finish.{Finish}
 use Rattle.swept.specs.declared.Swept.the-variants as S
 use Rattle.offered.specs.declared.Offered.the-variants as O
-use Rattle.turning.specs.Inner.{Room, FinishFits, ByteFits, UnitFits, AnswerFits, OfferFits}
+use Rattle.turning.specs.Inner.{FinishFits, ByteFits, UnitFits, AnswerFits, OfferFits}
+use Rattle.entries.specs.Inner.{Room}
 
 abbrev longest : Finish
 longest = record {

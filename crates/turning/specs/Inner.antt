@@ -1,15 +1,12 @@
 -- What the functions that are no entries require of their callers.
-use Prim.Native.Nat.{ℕ, _+_, _≤_}
+use Prim.Native.Nat.{ℕ, _≤_}
+use Rattle.entries.specs.Inner.{Room}
 use Rattle.run.specs.declared.Finish.{Finish}
 use Rattle.swept.specs.declared.Swept.{Swept}
 use Rattle.swept.specs.declared.Swept.the-variants as S
 use Rattle.swept.specs.Ranges.{FinishedSo}
 use Rattle.offered.specs.declared.Offered.{Offered}
 use Rattle.offered.specs.declared.Offered.the-variants as O
-
--- k entries from `at` on, in a run of n
-pub record Room (at k n : ℕ) : Type 0 where
-  pub room : at + k ≤ n
 
 pub record FinishFits (f : Finish) (n : ℕ) : Type 0 where
   pub room : Room 0 8 n

@@ -1,18 +1,18 @@
 -- What a call of `turning_settings` comes to (02, N1): the number, the list in the answer run, and the caller's seven runs.
 use Prim.Native.Nat.{ℕ, _≤_}
 use mathlib.Core.Path.{_≡_}
-use mathlib.Core.List.{List, [], _∷_, _++_}
+use mathlib.Core.List.{List, []}
 use lib.ListN.{length}
 use lib.Dec.{leb}
-use lib.IntN.{ℤ, pos}
+use lib.IntN.{ℤ}
 use Rattle.number.specs.Read.{pick}
 use Rattle.job_reader.specs.Record.{readJob}
 use Rattle.path.specs.Laying.{PathRuns}
 use Rattle.reaches.specs.Cells.{Reaches}
-use Rattle.ranking.specs.declared.Setting.{Setting}
 use Rattle.ranking.specs.declared.Listed.{Listed}
 use Rattle.ranking.specs.declared.Listed.the-variants as L
 use Rattle.bogie.specs.Settings.{Rail}
+use Rattle.entries.specs.Entries.{listNumber, listEntries}
 use Rattle.offered.specs.declared.Offered.{Offered}
 use Rattle.offered.specs.declared.Offered.the-variants as O
 use Rattle.offered.specs.Offered.{offeredInto, pathInto, reachesInto}
@@ -20,24 +20,9 @@ use Rattle.offered.specs.Ranges.{ListedSo}
 use Rattle.turning.specs.Answers.{Told, told, Answered, atByte}
 use Rattle.turning.specs.Calls.{numberIn, byteIn, ByteTold}
 
--- wheelbase and widest width
-abbrev pub settingEntries : Setting → List ℤ
-settingEntries s = pos (s .wheelbase) ∷ s .width ∷ []
-
--- zeros after the last that is listed
-abbrev pub noSetting : Setting
-noSetting = record { wheelbase = 0; width = pos 0 }
-
--- how many are listed, and the three, best first
-abbrev pub threeEntries : ℤ → Setting → Setting → Setting → List ℤ
-threeEntries n a b c = n ∷ (settingEntries a ++ (settingEntries b ++ settingEntries c))
-
 -- 0 with the list; a refusal writes nothing
 abbrev pub listTold : Listed → Told
-listTold (L.One a) = told 0 (threeEntries (pos 1) a noSetting noSetting)
-listTold (L.Two a b) = told 0 (threeEntries (pos 2) a b noSetting)
-listTold (L.Three a b c) = told 0 (threeEntries (pos 3) a b c)
-listTold (L.Refused n) = told n []
+listTold l = told (listNumber l) (listEntries l)
 
 -- a refused record's number has the byte beside it
 abbrev pub settingsTold : Offered → Told

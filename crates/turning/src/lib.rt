@@ -18,29 +18,21 @@ ghost use Rattle.reaches.specs.Cells.{reachRuns};
 ghost use Rattle.turning.specs.Answers.{TellEnsures, Answered, atByte, atUnit, sweepTold, pathTold, unitTold, finishEntries};
 ghost use Rattle.turning.specs.Calls.{SweepCalled, RunCalled};
 ghost use Rattle.turning.specs.Claims.{RefusalWritesNothing};
-ghost use Rattle.turning.specs.Inner.{Room, FinishFits, ByteFits, UnitFits, AnswerFits};
+ghost use Rattle.entries.specs.Inner.{Room};
+ghost use Rattle.turning.specs.Inner.{FinishFits, ByteFits, UnitFits, AnswerFits};
 
 // How many entries the answer run of a job must have.
 const SWEEP_ENTRIES: usize = 8;
-
-// Two entries of a run, from `at` on.
-fn put_pair(run: &mut [i64], at: usize, x: i64, y: i64)
-    requires { ⌜ Room at 2 (length (now run)) ⌝ }
-    ensures { λ _. ⌜ now (run .exit) ≡ sets (now (run .entry)) at (x ∷ y ∷ []) ⌝ }
-{
-    run[at] = x;
-    run[at + 1] = y;
-}
 
 // The first eight entries of a run.
 fn put_eight(run: &mut [i64], a: i64, b: i64, c: i64, d: i64, e: i64, f: i64, g: i64, h: i64)
     requires { ⌜ Room 0 8 (length (now run)) ⌝ }
     ensures { λ _. ⌜ now (run .exit) ≡ sets (now (run .entry)) 0 (a ∷ b ∷ c ∷ d ∷ e ∷ f ∷ g ∷ h ∷ []) ⌝ }
 {
-    put_pair(run, 0, a, b);
-    put_pair(run, 2, c, d);
-    put_pair(run, 4, e, f);
-    put_pair(run, 6, g, h);
+    entries::put_pair(run, 0, a, b);
+    entries::put_pair(run, 2, c, d);
+    entries::put_pair(run, 4, e, f);
+    entries::put_pair(run, 6, g, h);
 }
 
 // A walk that came to its last station: zeros stand for a widest place where no station is complete.
@@ -156,8 +148,8 @@ pub extern "C" fn turning_path_turn(gx: i64, gy: i64, s: u32, r: i32, answer: &m
         PathTurn::Turned(advance) => {
             let heading = advance.heading;
             let shift = advance.shift;
-            put_pair(answer, 0, heading.x, heading.y);
-            put_pair(answer, 2, shift.x, shift.y);
+            entries::put_pair(answer, 0, heading.x, heading.y);
+            entries::put_pair(answer, 2, shift.x, shift.y);
             0
         }
         PathTurn::Refused(number) => number as u32,
@@ -182,7 +174,7 @@ pub extern "C" fn turning_unit_turn(
     let turn = unit::turn_unit(Vec2 { x: dx, y: dy }, Vec2 { x: fx, y: fy }, wheelbase);
     match turn {
         UnitTurn::Turned(vector) => {
-            put_pair(answer, 0, vector.x, vector.y);
+            entries::put_pair(answer, 0, vector.x, vector.y);
             0
         }
         UnitTurn::Refused(number) => number as u32,

@@ -1,75 +1,21 @@
 // The list of settings for programs in C and Rust.
 use offered::Offered;
-use ranking::Listed;
-use ranking::Setting;
-ghost use mathlib.Core.Path.{_≡_};
 ghost use lib.ListN.{length};
-ghost use lib.Seq.{sets};
 ghost use Rattle.path.specs.Laying.{pathRuns};
 ghost use Rattle.reaches.specs.Cells.{reachRuns};
 ghost use Rattle.turning.specs.Answers.{TellEnsures};
-ghost use Rattle.turning.specs.Settings.{noSetting, settingEntries, threeEntries, listTold, settingsTold, SettingsCalled};
-ghost use Rattle.turning.specs.Inner.{Room, OfferFits};
+ghost use Rattle.turning.specs.Settings.{settingsTold, SettingsCalled};
+ghost use Rattle.turning.specs.Inner.{OfferFits};
 
 // How many entries the answer run of a list must have.
 const SETTINGS_ENTRIES: usize = 7;
-
-// What stands where no setting is listed.
-fn no_setting() -> Setting
-    ensures { λ r. ⌜ r ≡ noSetting ⌝ }
-{
-    Setting {
-        wheelbase: 0,
-        width: 0,
-    }
-}
-
-fn put_setting(run: &mut [i64], at: usize, s: Setting)
-    requires { ⌜ Room at 2 (length (now run)) ⌝ }
-    ensures { λ _. ⌜ now (run .exit) ≡ sets (now (run .entry)) at (settingEntries s) ⌝ }
-{
-    crate::put_pair(run, at, s.wheelbase as i64, s.width);
-}
-
-// The first seven entries of a run: how many are listed, and three settings.
-fn put_list(run: &mut [i64], n: i64, a: Setting, b: Setting, c: Setting)
-    requires { ⌜ Room 0 7 (length (now run)) ⌝ }
-    ensures { λ _. ⌜ now (run .exit) ≡ sets (now (run .entry)) 0 (threeEntries n a b c) ⌝ }
-{
-    run[0] = n;
-    put_setting(run, 1, a);
-    put_setting(run, 3, b);
-    put_setting(run, 5, c);
-}
-
-// A list's number; its entries are written where there is a setting to list, and only there.
-fn tell_list(listed: Listed, answer: &mut [i64]) -> u32
-    requires { ⌜ Room 0 7 (length (now answer)) ⌝ }
-    ensures { λ r. ⌜ TellEnsures (listTold listed) (now (answer .entry)) r (now (answer .exit)) ⌝ }
-{
-    match listed {
-        Listed::One(a) => {
-            put_list(answer, 1, a, no_setting(), no_setting());
-            0
-        }
-        Listed::Two(a, b) => {
-            put_list(answer, 2, a, b, no_setting());
-            0
-        }
-        Listed::Three(a, b, c) => {
-            put_list(answer, 3, a, b, c);
-            0
-        }
-        Listed::Refused(number) => number as u32,
-    }
-}
 
 fn tell_offered(offered: Offered, answer: &mut [i64]) -> u32
     requires { ⌜ OfferFits offered (length (now answer)) ⌝ }
     ensures { λ r. ⌜ TellEnsures (settingsTold offered) (now (answer .entry)) r (now (answer .exit)) ⌝ }
 {
     match offered {
-        Offered::Listed(listed) => tell_list(listed, answer),
+        Offered::Listed(listed) => entries::tell_list(listed, answer),
         Offered::Refused(number, byte) => crate::at_byte(number, byte),
     }
 }

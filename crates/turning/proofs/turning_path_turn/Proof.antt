@@ -13,7 +13,8 @@ use Rattle.heading.specs.PathTurn.{pathTurn}
 use Rattle.heading.specs.declared.Advance.{Advance}
 use Rattle.heading.specs.declared.PathTurn.{PathTurn}
 use Rattle.turning.specs.Answers.{pathTold, Answered}
-use Rattle.turning.proofs.AnswerLaws.{written-on, too-short, answered}
+use Rattle.entries.proofs.EntryLaws.{written-on}
+use Rattle.turning.proofs.AnswerLaws.{too-short, answered}
 use borrow.Author.Needs.{needs}
 use Rattle.turning.proofs.turning_path_turn.Statement.{statement}
 use Rattle.turning.proofs.turning_path_turn.Tie as tie

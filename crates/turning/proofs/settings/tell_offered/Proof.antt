@@ -31,7 +31,7 @@ same-length : tie.Need-same-length
 same-length c = search needs
 
 returns : tie.Need-returns
-returns c = let k = c .before .before .before .before in told (k .before .before) _ _ _ (k .offered .given .1) (c .before .tell-list .ensures)
+returns c = let k = c .before .before .before .before in told (k .before .before) _ _ _ (k .offered .given .1) (let t = c .before .tell-list .ensures in record { number = t .number; run = t .run })
 
 returns-2 : tie.Need-returns-2
 returns-2 c = let k = c .before .before in told (k .before .before) _ _ _ (k .offered2 .given .1) (record { number = c .at-byte .ensures; run = refl })
