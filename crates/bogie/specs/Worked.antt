@@ -1,14 +1,16 @@
 -- The worked job of 01, "Rigs to try", at some settings: on a straight every wheelbase has the same width, and above 50,000 no station of this one is complete.
+use Prim.Native.Nat.{ℕ}
 use mathlib.Core.Path.{_≡_}
-use mathlib.Core.List.{List}
+use mathlib.Core.List.{List, [], _∷_}
 use lib.ListN.{replicate}
-use lib.IntN.{ℤ, pos}
+use lib.IntN.{ℤ, pos, negsuc}
+use Rattle.job.specs.declared.Vehicle.{Vehicle}
 use Rattle.path.specs.Laying.{PathRuns, pathRuns}
 use Rattle.reaches.specs.Cells.{Reaches, reachRuns}
 use Rattle.run.specs.Worked.{workedJob}
 use Rattle.ranking.specs.declared.Listed.{Listed}
 use Rattle.ranking.specs.declared.Listed.the-variants.{Two, Three, Refused}
-use Rattle.bogie.specs.Settings.{Rail}
+use Rattle.bogie.specs.Settings.{Rail, vehicleSet}
 use Rattle.bogie.specs.List.{ListEnsures}
 
 -- runs of zeros, one entry a station
@@ -21,12 +23,29 @@ unlaid = pathRuns zeros zeros zeros zeros
 abbrev pub uncleared : Reaches
 uncleared = reachRuns zeros zeros (replicate 14 0)
 
+-- a rig of two units, by the wheelbase of its second
+abbrev pub twoUnits : ℕ → Vehicle
+twoUnits w = record {
+  count = 2;
+  units =
+      record { wheelbase = 40000; hitch = negsuc 37367; fold = pos 0 }
+      ∷ record { wheelbase = w; hitch = pos 0; fold = negsuc 889 }
+      ∷ record { wheelbase = 1; hitch = pos 2; fold = pos 3 }
+      ∷ record { wheelbase = 4; hitch = pos 5; fold = pos 6 }
+      ∷ [];
+  overhang = 7000;
+  «front_half_width» = 8000;
+  «rear_half_width» = 9000;
+}
+
 -- every call with these settings answers this
 abbrev pub Lists : Rail → Listed → Type 0
 Lists b wanted = (answer : Listed) (p' : PathRuns) (r' : Reaches) → ListEnsures workedJob b unlaid uncleared answer p' r' → answer ≡ wanted
 
 -- the claim
 pub record WorkedLists : Type 0 where
+  -- "last wheelbase": the second unit's, and nothing else, in a rig of two
+  pub replaced : vehicleSet (twoUnits 50000) 62000 ≡ twoUnits 62000
   -- 20,000 to 60,000: five settings, of which four have the width 24,000, and the three shortest are listed
   pub three : Lists (record { lowest = 20000; pitch = 10000; number = 5 }) (Three (record { wheelbase = 20000; width = pos 24000 }) (record { wheelbase = 30000; width = pos 24000 }) (record { wheelbase = 40000; width = pos 24000 }))
   -- 40,000 to 60,000: two are listed

@@ -1,2 +1,3 @@
 pub mod Entries
 pub mod Inner
+pub mod Worked

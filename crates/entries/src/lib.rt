@@ -7,6 +7,7 @@ ghost use lib.ListN.{length};
 ghost use lib.Seq.{sets};
 ghost use Rattle.entries.specs.Entries.{noSetting, settingEntries, threeEntries, ListEntered};
 ghost use Rattle.entries.specs.Inner.{Room};
+ghost use Rattle.entries.specs.Worked.{WorkedEntries};
 
 // Two entries of a run, from `at` on.
 pub fn put_pair(run: &mut [i64], at: usize, x: i64, y: i64)
@@ -66,3 +67,8 @@ pub fn tell_list(listed: Listed, answer: &mut [i64]) -> u32
         Listed::Refused(number) => number as u32,
     }
 }
+
+// Claim: the entries of a list of two, and of none, one by one.
+pub fn worked_entries()
+    ensures { λ _. ⌜ WorkedEntries ⌝ }
+{}

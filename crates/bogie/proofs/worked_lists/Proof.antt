@@ -1,4 +1,5 @@
 -- `bogie::worked_lists` meets its contract, by computing.
+use mathlib.Core.Path.{refl}
 use Rattle.exact.specs.Nearest.{halfTo, nearestSize, nearestZ}
 use Rattle.plane.specs.Length.{hasLength}
 use Rattle.job.specs.Allowed.{headingAllowed}
@@ -28,7 +29,7 @@ use Rattle.bogie.proofs.worked_lists.Tie as tie
 
 worked : WorkedLists
 unfolding halfTo nearestSize nearestZ hasLength headingAllowed emptyUnits emptyElements faultOf unitsFault elementsFault vehicleFault judge fullSteps cutsFrom stepsOn stationsFrom stations placedBy turnedBy tooFar hitchOffset foldAllowed lent stationSound pathSound vehicleSound vectorSound vectorsSound recordSound atLast turnUnits startVectors drawStep rearEnd pointAt rigPoints atStations reachOf crosses crossedBy crossedFrom widestAmong walkOn runRefusal settingsAllowed railAllowed fitting insert ranked listRefusal
-worked = record { three = λ a p r h. h .answered; two = λ a p r h. h .answered; none = λ a p r h. h .answered; outside = λ a p r h. h .answered }
+worked = record { replaced = refl; three = λ a p r h. h .answered; two = λ a p r h. h .answered; none = λ a p r h. h .answered; outside = λ a p r h. h .answered }
 
 returns : tie.Need-returns
 returns c = worked
