@@ -1,3 +1,4 @@
-pub mod Entries
+pub mod Answers
+pub mod Lists
 pub mod Inner
 pub mod Worked

@@ -15,9 +15,9 @@ use Rattle.swept.specs.declared.Swept.the-variants as S
 use Rattle.swept.specs.Swept.{sweptOf, sweptInto}
 use Rattle.swept.specs.Ranges.{RefusedSo, SweptEnsures, IntoSo, IntoEnsures}
 use Rattle.swept.proofs.SweptLaws.{answered-into}
-use Rattle.turning.specs.Answers.{TellEnsures, Answered, atByte, atUnit, sweepTold}
-use Rattle.turning.specs.Calls.{numberIn, byteIn, unitIn, stepIn, ByteTold, TakenApart, SweepCalled, RunCalled}
-use Rattle.turning.specs.Inner.{SweptFits}
+use Rattle.entries.specs.Answers.{TellEnsures, atByte, atUnit, sweepTold}
+use Rattle.entries.specs.Inner.{SweptFits}
+use Rattle.turning.specs.Calls.{Answered, numberIn, byteIn, unitIn, stepIn, ByteTold, TakenApart, SweepCalled, RunCalled}
 use Rattle.turning.proofs.AnswerLaws.{too-short, answered-as}
 
 -- a number below 256, with a byte, or with a unit below 256 and a step

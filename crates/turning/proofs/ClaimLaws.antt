@@ -11,10 +11,6 @@ use lib.Seq.{sets}
 use lib.Dec.{leb}
 use lib.IntN.{ℤ}
 use Rattle.number.specs.Read.{Read, got, refused, pick}
-use Rattle.heading.specs.declared.PathTurn.{PathTurn}
-use Rattle.heading.specs.declared.PathTurn.the-variants as P
-use Rattle.unit.specs.declared.UnitTurn.{UnitTurn}
-use Rattle.unit.specs.declared.UnitTurn.the-variants as U
 use Rattle.job.specs.declared.Job.{Job}
 use Rattle.job_reader.specs.Record.{readJob}
 use Rattle.path.specs.Stations.{stations}
@@ -23,21 +19,17 @@ use Rattle.walk.specs.Drawn.{Drawn, Outcome, made, refused as refusedStep, refu
 use Rattle.reaches.specs.Cells.{Reaches}
 use Rattle.stations.specs.Placing.{unlessRefused}
 use Rattle.run.specs.Run.{ranBy, ranOver, ranAnswer, runRefusal, jobPath, jobCourse}
-use Rattle.swept.specs.declared.Swept.{Swept}
-use Rattle.swept.specs.declared.Swept.the-variants as S
 use Rattle.swept.specs.Swept.{sweptRun, sweptOf, sweptInto, pathInto, reachesInto}
 use Rattle.ranking.specs.declared.Setting.{Setting}
-use Rattle.ranking.specs.declared.Listed.{Listed}
-use Rattle.ranking.specs.declared.Listed.the-variants as L
 use Rattle.bogie.specs.Settings.{Rail, lastSetting, jobSet}
 use Rattle.ranking.specs.Ranking.{listedOf}
 use Rattle.bogie.specs.List.{listRefusal, rankedSettings, listAnswer}
-use Rattle.offered.specs.declared.Offered.{Offered}
-use Rattle.offered.specs.declared.Offered.the-variants as O
 use Rattle.offered.specs.Offered.{offeredInto, pathInto as listPath, reachesInto as listReaches}
-use Rattle.turning.specs.Answers.{Told, Answered, sweepTold, pathTold, unitTold}
-use Rattle.turning.specs.Calls.{UnitTold, TakenApart, RunCalled}
-use Rattle.turning.specs.Settings.{listTold, settingsTold, ListApart, OfferApart, SettingsCalled}
+use Rattle.entries.specs.Answers.{Told, sweepTold, pathTold, unitTold}
+use Rattle.entries.specs.Lists.{settingsTold}
+use Rattle.entries.proofs.BareLaws.{sweep-bare, path-bare, unit-bare, settings-bare}
+use Rattle.turning.specs.Calls.{Answered, UnitTold, TakenApart, RunCalled}
+use Rattle.turning.specs.Settings.{ListApart, OfferApart, SettingsCalled}
 use Rattle.turning.specs.Claims.{BeforeWalk, BeforeWalks, RefusalWritesNothing}
 
 -- an answer that has entries only beside 0
@@ -47,19 +39,6 @@ kept room t bare before n after k h = by (leb room (length before)) (k .number) 
     by : (b : Bool) → n ≡ pick b (t .number) 21 → after ≡ pick b (sets before 0 (t .entries)) before → after ≡ before
     by true p q = q ∙ ap (sets before 0) (bare (λ z. h (p ∙ z)))
     by false p q = q
-
-sweep-bare : (a : Swept) → (sweepTold a .number ≡ 0 → ⊥) → sweepTold a .entries ≡ []
-sweep-bare (S.Finished f) h = absurd (h refl)
-sweep-bare (S.Stopped n u k) h = refl
-sweep-bare (S.Refused n p) h = refl
-
-path-bare : (t : PathTurn) → (pathTold t .number ≡ 0 → ⊥) → pathTold t .entries ≡ []
-path-bare (P.Turned a) h = absurd (h refl)
-path-bare (P.Refused n) h = refl
-
-unit-bare : (t : UnitTurn) → (unitTold t .number ≡ 0 → ⊥) → unitTold t .entries ≡ []
-unit-bare (U.Turned d) h = absurd (h refl)
-unit-bare (U.Refused n) h = refl
 
 -- runs that are left alone, whether or not the answer run has the room
 where-room : (room : ℕ) (before : List ℤ) {p q : PathRuns} {r s : Reaches} (p' : PathRuns) (r' : Reaches) → p' ≡ pick (leb room (length before)) q p → r' ≡ pick (leb room (length before)) s r
@@ -97,16 +76,6 @@ module _ (a : ℕ) (h : a ≡ 0 → ⊥) (m : BeforeWalk a) where
     runs-kept s before p' r' after k = where-room 8 before p' r' (k .path) (k .reaches) (λ g. untouched (readJob s) (k .apart g))
 
 -- ---- a list
-
-list-bare : (l : Listed) → (listTold l .number ≡ 0 → ⊥) → listTold l .entries ≡ []
-list-bare (L.One a) h = absurd (h refl)
-list-bare (L.Two a b) h = absurd (h refl)
-list-bare (L.Three a b c) h = absurd (h refl)
-list-bare (L.Refused n) h = refl
-
-settings-bare : (a : Offered) → (settingsTold a .number ≡ 0 → ⊥) → settingsTold a .entries ≡ []
-settings-bare (O.Listed l) h = list-bare l h
-settings-bare (O.Refused n p) h = refl
 
 -- such a number tells no list of walks
 module _ (a : ℕ) (h : a ≡ 0 → ⊥) (m : BeforeWalks a) where

@@ -2,4 +2,3 @@ pub mod AnswerLaws
 pub mod CallLaws
 pub mod SettingsLaws
 pub mod ClaimLaws
-pub mod Witnesses

@@ -17,9 +17,10 @@ use Rattle.offered.specs.declared.Offered.{Offered}
 use Rattle.offered.specs.declared.Offered.the-variants as O
 use Rattle.offered.specs.Offered.{offeredInto}
 use Rattle.offered.specs.Ranges.{ListedSo, OfferedSo, ListIntoEnsures}
-use Rattle.turning.specs.Answers.{TellEnsures}
-use Rattle.turning.specs.Settings.{listTold, settingsTold, ListApart, OfferApart, SettingsCalled}
-use Rattle.turning.specs.Inner.{OfferedFits}
+use Rattle.entries.specs.Answers.{TellEnsures}
+use Rattle.entries.specs.Lists.{listTold, settingsTold}
+use Rattle.entries.specs.Inner.{OfferedFits}
+use Rattle.turning.specs.Settings.{ListApart, OfferApart, SettingsCalled}
 use Rattle.turning.proofs.AnswerLaws.{too-short, answered-as}
 use Rattle.turning.proofs.CallLaws.{record-refused}
 

@@ -1,7 +1,7 @@
 -- What a call of `turning_settings` comes to (02, N1): the number, the list in the answer run, and the caller's seven runs.
 use Prim.Native.Nat.{ℕ, _≤_}
 use mathlib.Core.Path.{_≡_}
-use mathlib.Core.List.{List, []}
+use mathlib.Core.List.{List}
 use lib.ListN.{length}
 use lib.Dec.{leb}
 use lib.IntN.{ℤ}
@@ -12,22 +12,12 @@ use Rattle.reaches.specs.Cells.{Reaches}
 use Rattle.ranking.specs.declared.Listed.{Listed}
 use Rattle.ranking.specs.declared.Listed.the-variants as L
 use Rattle.bogie.specs.Settings.{Rail}
-use Rattle.entries.specs.Entries.{listNumber, listEntries}
+use Rattle.entries.specs.Lists.{settingsTold}
 use Rattle.offered.specs.declared.Offered.{Offered}
 use Rattle.offered.specs.declared.Offered.the-variants as O
 use Rattle.offered.specs.Offered.{offeredInto, pathInto, reachesInto}
 use Rattle.offered.specs.Ranges.{ListedSo}
-use Rattle.turning.specs.Answers.{Told, told, Answered, atByte}
-use Rattle.turning.specs.Calls.{numberIn, byteIn, ByteTold}
-
--- 0 with the list; a refusal writes nothing
-abbrev pub listTold : Listed → Told
-listTold l = told (listNumber l) (listEntries l)
-
--- a refused record's number has the byte beside it
-abbrev pub settingsTold : Offered → Told
-settingsTold (O.Listed l) = listTold l
-settingsTold (O.Refused n p) = told (atByte n p) []
+use Rattle.turning.specs.Calls.{Answered, numberIn, byteIn, ByteTold}
 
 -- by 21, 29 or 30, without a byte
 pub record ListTold (a n : ℕ) : Type 0 where

@@ -1,24 +1,10 @@
 // The list of settings for programs in C and Rust.
-use offered::Offered;
-ghost use lib.ListN.{length};
 ghost use Rattle.path.specs.Laying.{pathRuns};
 ghost use Rattle.reaches.specs.Cells.{reachRuns};
-ghost use Rattle.turning.specs.Answers.{TellEnsures};
-ghost use Rattle.turning.specs.Settings.{settingsTold, SettingsCalled};
-ghost use Rattle.turning.specs.Inner.{OfferFits};
+ghost use Rattle.turning.specs.Settings.{SettingsCalled};
 
 // How many entries the answer run of a list must have.
 const SETTINGS_ENTRIES: usize = 7;
-
-fn tell_offered(offered: Offered, answer: &mut [i64]) -> u32
-    requires { ⌜ OfferFits offered (length (now answer)) ⌝ }
-    ensures { λ r. ⌜ TellEnsures (settingsTold offered) (now (answer .entry)) r (now (answer .exit)) ⌝ }
-{
-    match offered {
-        Offered::Listed(listed) => entries::tell_list(listed, answer),
-        Offered::Refused(number, byte) => crate::at_byte(number, byte),
-    }
-}
 
 // The best settings of a job's last wheelbase, on the caller's seven runs: 0 with the list, else the refusal's number, with the byte where the record is refused.
 #[no_mangle]
@@ -48,7 +34,7 @@ pub extern "C" fn turning_settings(
     if answer.len() < SETTINGS_ENTRIES {
         return 21;
     }
-    tell_offered(
+    entries::lists::tell_offered(
         offered::list_into(
             job,
             lowest,

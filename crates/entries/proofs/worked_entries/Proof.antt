@@ -4,7 +4,7 @@ use Rattle.entries.proofs.worked_entries.Statement.{statement}
 use Rattle.entries.proofs.worked_entries.Tie as tie
 
 returns : tie.Need-returns
-returns c = record { two = refl; none = (refl, refl) }
+returns c = record { two = refl; none = refl }
 
 pub worked-entries-spec : {M : Type 1} → statement M
 worked-entries-spec = tie.close (tie.spec returns)

@@ -44,8 +44,8 @@ returns c = let s = c .before .before .before in run-short (bytes s) (answer s) 
 sweep-into-requires : tie.Need-sweep-into-requires
 sweep-into-requires c κs = search needs
 
-tell-requires : tie.Need-tell-requires
-tell-requires c κs =
+tell-sweep-requires : tie.Need-tell-sweep-requires
+tell-sweep-requires c κs =
     let k = c .before .before .before .before .before .before .before .before .before in
     record { room = record { room = omega (arith, roomy k .if1 .left) }; ranges = fits (bytes (start k)) (k .sweep-into .result) (k .sweep-into .ensures .ranges) }
 
@@ -77,7 +77,7 @@ returns-2 : tie.Need-returns-2
 returns-2 c =
     let k = c .before .before .before .before .before .before .before .before .before .before .before in
     let s = start k in
-    run-called (bytes s) (answer s) (omega (arith, roomy k .if1 .left)) (k .sweep-into .result) _ _ (c .before .tell .ensures) (path s) (reaches s) (laid k) (left k) (k .sweep-into .ensures)
+    run-called (bytes s) (answer s) (omega (arith, roomy k .if1 .left)) (k .sweep-into .result) _ _ (c .before .tell-sweep .ensures) (path s) (reaches s) (laid k) (left k) (k .sweep-into .ensures)
 
 pub turning-run-spec : {M : Type 1} → statement M
 turning-run-spec =
@@ -85,7 +85,7 @@ turning-run-spec =
     (tie.spec
     returns
     sweep-into-requires
-    tell-requires
+    tell-sweep-requires
     same-length
     same-length-2
     same-length-3

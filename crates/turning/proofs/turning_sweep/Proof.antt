@@ -25,8 +25,8 @@ returns c = let s = c .before .before in sweep-short (bytes s) (run s) (c .if1 .
 sweep-job-requires : tie.Need-sweep-job-requires
 sweep-job-requires c κs = search needs
 
-tell-requires : tie.Need-tell-requires
-tell-requires c κs =
+tell-sweep-requires : tie.Need-tell-sweep-requires
+tell-sweep-requires c κs =
     let k = c .before in
     let s = bytes (start k) in
     record { room = record { room = omega (arith, k .before .if1 .left) }; ranges = fits s (k .sweep-job .result) (answered-into s (k .sweep-job .result) (k .sweep-job .ensures .ranges)) }
@@ -38,8 +38,8 @@ returns-2 : tie.Need-returns-2
 returns-2 c =
     let k = c .before .before .before in
     let s = start k in
-    sweep-called (bytes s) (run s) (omega (arith, k .before .if1 .left)) (k .sweep-job .result) _ _ (c .before .tell .ensures) (k .sweep-job .ensures)
+    sweep-called (bytes s) (run s) (omega (arith, k .before .if1 .left)) (k .sweep-job .result) _ _ (c .before .tell-sweep .ensures) (k .sweep-job .ensures)
 
 pub turning-sweep-spec : {M : Type 1} → statement M
 turning-sweep-spec =
-    tie.close (tie.spec returns sweep-job-requires tell-requires same-length returns-2)
+    tie.close (tie.spec returns sweep-job-requires tell-sweep-requires same-length returns-2)

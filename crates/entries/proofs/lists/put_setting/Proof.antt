@@ -1,4 +1,4 @@
--- `entries::put_setting` meets its contract.
+-- `entries::lists::put_setting` meets its contract.
 use mathlib.Core.Path.{_≡_, _∙_}
 use mathlib.Core.List.{[], _∷_}
 use native.Mathlib.Omega.{arith}
@@ -8,8 +8,8 @@ use denote.Ref.{now}
 use borrow.Author.Needs.{needs}
 use Rattle.exact.proofs.Machine.{reread}
 use Rattle.entries.proofs.EntryLaws.{count-alone}
-use Rattle.entries.proofs.put_setting.Statement.{statement}
-use Rattle.entries.proofs.put_setting.Tie as tie
+use Rattle.entries.proofs.lists.put_setting.Statement.{statement}
+use Rattle.entries.proofs.lists.put_setting.Tie as tie
 
 -- both are read back from their bits as they were
 wheelbase-alone : (c : tie.After-struct-known) → reread (pos (c .before .before .args .s .wheelbase)) ≡ pos (c .before .before .args .s .wheelbase)

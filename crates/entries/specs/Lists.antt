@@ -1,12 +1,12 @@
 -- A list of settings as entries of an answer run (02, N1, for C and Rust): how many, then wheelbase and width of each, best first, zeros after.
-use Prim.Native.Nat.{ℕ}
-use mathlib.Core.Path.{_≡_}
 use mathlib.Core.List.{List, [], _∷_, _++_}
-use lib.Seq.{sets}
 use lib.IntN.{ℤ, pos}
 use Rattle.ranking.specs.declared.Setting.{Setting}
 use Rattle.ranking.specs.declared.Listed.{Listed}
 use Rattle.ranking.specs.declared.Listed.the-variants as L
+use Rattle.offered.specs.declared.Offered.{Offered}
+use Rattle.offered.specs.declared.Offered.the-variants as O
+use Rattle.entries.specs.Answers.{Told, told, atByte}
 
 -- wheelbase and widest width
 abbrev pub settingEntries : Setting → List ℤ
@@ -20,20 +20,14 @@ noSetting = record { wheelbase = 0; width = pos 0 }
 abbrev pub threeEntries : ℤ → Setting → Setting → Setting → List ℤ
 threeEntries n a b c = n ∷ (settingEntries a ++ (settingEntries b ++ settingEntries c))
 
--- 0 with the list, else the refusal's number
-abbrev pub listNumber : Listed → ℕ
-listNumber (L.One a) = 0
-listNumber (L.Two a b) = 0
-listNumber (L.Three a b c) = 0
-listNumber (L.Refused n) = n
+-- 0 with the list; a refusal writes nothing
+abbrev pub listTold : Listed → Told
+listTold (L.One a) = told 0 (threeEntries (pos 1) a noSetting noSetting)
+listTold (L.Two a b) = told 0 (threeEntries (pos 2) a b noSetting)
+listTold (L.Three a b c) = told 0 (threeEntries (pos 3) a b c)
+listTold (L.Refused n) = told n []
 
--- a refusal writes nothing
-abbrev pub listEntries : Listed → List ℤ
-listEntries (L.One a) = threeEntries (pos 1) a noSetting noSetting
-listEntries (L.Two a b) = threeEntries (pos 2) a b noSetting
-listEntries (L.Three a b c) = threeEntries (pos 3) a b c
-listEntries (L.Refused n) = []
-
-pub record ListEntered (l : Listed) (before : List ℤ) (n : ℕ) (after : List ℤ) : Type 0 where
-  pub number : n ≡ listNumber l
-  pub run : after ≡ sets before 0 (listEntries l)
+-- a refused record's number has the byte beside it
+abbrev pub settingsTold : Offered → Told
+settingsTold (O.Listed l) = listTold l
+settingsTold (O.Refused n p) = told (atByte n p) []

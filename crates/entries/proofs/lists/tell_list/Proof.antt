@@ -1,4 +1,4 @@
--- `entries::tell_list` meets its contract, list by list.
+-- `entries::lists::tell_list` meets its contract, list by list.
 use Prim.Native.Nat.{ℕ}
 use mathlib.Core.Path.{_≡_, refl, sym, _∙_, subst}
 use mathlib.Core.List.{List}
@@ -7,15 +7,16 @@ use lib.IntN.{ℤ, pos}
 use denote.Ref.{now}
 use borrow.Author.Needs.{needs}
 use Rattle.ranking.specs.declared.Listed.{Listed}
-use Rattle.entries.specs.Entries.{threeEntries, ListEntered}
-use Rattle.entries.proofs.tell_list.Statement.{statement}
-use Rattle.entries.proofs.tell_list.Tie as tie
+use Rattle.entries.specs.Answers.{TellEnsures}
+use Rattle.entries.specs.Lists.{threeEntries, listTold}
+use Rattle.entries.proofs.lists.tell_list.Statement.{statement}
+use Rattle.entries.proofs.lists.tell_list.Tie as tie
 
 abbrev run : tie.Start → List ℤ
 run s = now (s .args .answer)
 
-told : (s : tie.Start) (l : Listed) (n : ℕ) (after : List ℤ) → s .args .listed ≡ l → ListEntered l (run s) n after → ListEntered (s .args .listed) (run s) n after
-told s l n after e t = subst (λ (x : Listed). ListEntered x (run s) n after) (sym e) t
+told : (s : tie.Start) (l : Listed) (n : ℕ) (after : List ℤ) → s .args .listed ≡ l → TellEnsures (listTold l) (run s) n after → TellEnsures (listTold (s .args .listed)) (run s) n after
+told s l n after e t = subst (λ (x : Listed). TellEnsures (listTold x) (run s) n after) (sym e) t
 
 enum-known-listed : tie.Need-enum-known-listed
 enum-known-listed c = search needs

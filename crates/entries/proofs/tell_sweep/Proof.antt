@@ -1,4 +1,4 @@
--- `turning::tell` meets its contract, answer by answer.
+-- `entries::tell_sweep` meets its contract, answer by answer.
 use Prim.Native.Nat.{ℕ}
 use mathlib.Core.Path.{_≡_, refl, sym, subst}
 use mathlib.Core.List.{List}
@@ -7,10 +7,10 @@ use lib.IntN.{ℤ}
 use denote.Ref.{now}
 use borrow.Author.Needs.{needs}
 use Rattle.swept.specs.declared.Swept.{Swept}
-use Rattle.turning.specs.Answers.{TellEnsures, sweepTold}
-use Rattle.turning.specs.Inner.{SweptFits}
-use Rattle.turning.proofs.tell.Statement.{statement}
-use Rattle.turning.proofs.tell.Tie as tie
+use Rattle.entries.specs.Answers.{TellEnsures, sweepTold}
+use Rattle.entries.specs.Inner.{SweptFits}
+use Rattle.entries.proofs.tell_sweep.Statement.{statement}
+use Rattle.entries.proofs.tell_sweep.Tie as tie
 
 told : (s : tie.Start) (a : Swept) (n : ℕ) (after : List ℤ) → s .args .swept ≡ a → TellEnsures (sweepTold a) (now (s .args .answer)) n after → TellEnsures (sweepTold (s .args .swept)) (now (s .args .answer)) n after
 told s a n after e t = subst (λ (x : Swept). TellEnsures (sweepTold x) (now (s .args .answer)) n after) (sym e) t
@@ -48,8 +48,8 @@ returns-2 c = let k = c .before .before in told (k .before .before) _ _ _ (k .sw
 returns-3 : tie.Need-returns-3
 returns-3 c = let k = c .before .before in told (k .before .before) _ _ _ (k .swept3 .given .1) (record { number = c .at-byte .ensures; run = refl })
 
-pub tell-spec : {M : Type 1} → statement M
-tell-spec =
+pub tell-sweep-spec : {M : Type 1} → statement M
+tell-sweep-spec =
     tie.close
     (tie.spec
     enum-known-swept

@@ -1,4 +1,4 @@
--- `turning::put_finish` meets its contract, with a widest place and without one.
+-- `entries::put_finish` meets its contract, with a widest place and without one.
 use Prim.Native.Nat.{_≤_}
 use mathlib.Core.Path.{_≡_, sym, _∙_, ap, subst}
 use mathlib.Core.List.{List, [], _∷_, _++_}
@@ -11,11 +11,11 @@ use Rattle.reaches.specs.declared.Best.{Best}
 use Rattle.reaches.specs.declared.Place.{Place}
 use Rattle.run.specs.declared.Finish.{Finish}
 use Rattle.swept.specs.Ranges.{OnPath}
-use Rattle.turning.specs.Answers.{zeros, finishWith, finishEntries}
+use Rattle.entries.specs.Answers.{zeros, finishWith, finishEntries}
 use Rattle.entries.proofs.EntryLaws.{count-fits, count-alone}
 use borrow.Author.Needs.{needs}
-use Rattle.turning.proofs.put_finish.Statement.{statement}
-use Rattle.turning.proofs.put_finish.Tie as tie
+use Rattle.entries.proofs.put_finish.Statement.{statement}
+use Rattle.entries.proofs.put_finish.Tie as tie
 
 abbrev run : tie.Start → List ℤ
 run s = now (s .args .run)

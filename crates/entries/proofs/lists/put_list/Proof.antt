@@ -1,4 +1,4 @@
--- `entries::put_list` meets its contract: the count, then three pairs.
+-- `entries::lists::put_list` meets its contract: the count, then three pairs.
 use mathlib.Core.Path.{_≡_, _∙_}
 use mathlib.Core.List.{_∷_, _++_}
 use native.Mathlib.Omega.{arith}
@@ -6,10 +6,10 @@ use lib.ListN.{length, length-set}
 use denote.Ref.{now}
 use mir.Facts.{toZ-ofZ}
 use borrow.Author.Needs.{needs}
-use Rattle.entries.specs.Entries.{settingEntries}
+use Rattle.entries.specs.Lists.{settingEntries}
 use Rattle.entries.proofs.EntryLaws.{written-on}
-use Rattle.entries.proofs.put_list.Statement.{statement}
-use Rattle.entries.proofs.put_list.Tie as tie
+use Rattle.entries.proofs.lists.put_list.Statement.{statement}
+use Rattle.entries.proofs.lists.put_list.Tie as tie
 
 -- the run keeps its length
 one-kept : (c : tie.After-put-setting) → length (c .put-setting .last .0) ≡ length (now (c .before .before .args .run))

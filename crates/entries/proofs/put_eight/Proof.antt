@@ -1,11 +1,11 @@
--- `turning::put_eight` meets its contract: four pairs, one after the other.
+-- `entries::put_eight` meets its contract: four pairs, one after the other.
 use mathlib.Core.List.{[], _∷_}
 use borrow.Author.Needs.{needs}
 use denote.Ref.{now}
 use mir.Facts.{toZ-ofZ}
 use Rattle.entries.proofs.EntryLaws.{written-on}
-use Rattle.turning.proofs.put_eight.Statement.{statement}
-use Rattle.turning.proofs.put_eight.Tie as tie
+use Rattle.entries.proofs.put_eight.Statement.{statement}
+use Rattle.entries.proofs.put_eight.Tie as tie
 
 put-pair-requires : tie.Need-put-pair-requires
 put-pair-requires c κs = search needs

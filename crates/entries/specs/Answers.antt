@@ -1,12 +1,10 @@
--- The answers of the functions open to C and Rust: a number, and the entries at the start of a lent run. A refusal writes none ("nothing is written", 01, "Why a job is turned down").
+-- Each answer as programs in C and Rust get it: a number, and the entries at the start of a lent run. A refusal writes none ("nothing is written", 01, "Why a job is turned down").
 use Prim.Native.Nat.{ℕ, _+_, _*_}
 use mathlib.Core.Path.{_≡_}
 use mathlib.Core.List.{List, [], _∷_, _++_}
-use lib.ListN.{length, replicate}
+use lib.ListN.{replicate}
 use lib.Seq.{sets}
-use lib.Dec.{leb}
 use lib.IntN.{ℤ, pos}
-use Rattle.number.specs.Read.{pick}
 use Rattle.heading.specs.declared.PathTurn.{PathTurn}
 use Rattle.heading.specs.declared.PathTurn.the-variants as P
 use Rattle.unit.specs.declared.UnitTurn.{UnitTurn}
@@ -29,11 +27,6 @@ told n es = record { number = n; entries = es }
 pub record TellEnsures (t : Told) (before : List ℤ) (n : ℕ) (after : List ℤ) : Type 0 where
   pub number : n ≡ t .number
   pub run : after ≡ sets before 0 (t .entries)
-
--- 21 where the run has too few entries, and nothing is written; the entries past those written stay
-pub record Answered (room : ℕ) (t : Told) (before : List ℤ) (n : ℕ) (after : List ℤ) : Type 0 where
-  pub number : n ≡ pick (leb room (length before)) (t .number) 21
-  pub run : after ≡ pick (leb room (length before)) (sets before 0 (t .entries)) before
 
 abbrev pub zeros : ℕ → List ℤ
 zeros n = replicate n (pos 0)

@@ -1,8 +1,8 @@
--- `turning::at_unit` meets its contract.
+-- `entries::at_unit` meets its contract.
 use native.Mathlib.Omega.{arith}
 use borrow.Author.Needs.{needs}
-use Rattle.turning.proofs.at_unit.Statement.{statement}
-use Rattle.turning.proofs.at_unit.Tie as tie
+use Rattle.entries.proofs.at_unit.Statement.{statement}
+use Rattle.entries.proofs.at_unit.Tie as tie
 
 cast-result : tie.Need-cast-result
 cast-result c = search needs
