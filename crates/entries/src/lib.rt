@@ -123,7 +123,7 @@ pub fn tell_unit_turn(turn: UnitTurn, answer: &mut [i64]) -> u32
     }
 }
 
-// Claim: the entries of a list of two, and of none, one by one.
+// Claim: the entries of each kind of answer, one by one.
 pub fn worked_entries()
     ensures { λ _. ⌜ WorkedEntries ⌝ }
 {}

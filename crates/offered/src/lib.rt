@@ -6,7 +6,7 @@ ghost use Rattle.path.specs.Laying.{pathRuns};
 ghost use Rattle.reaches.specs.Cells.{reachRuns};
 ghost use Rattle.offered.specs.Offered.{offeredOf};
 ghost use Rattle.offered.specs.Ranges.{ListIntoEnsures};
-ghost use Rattle.offered.specs.Claims.{FirstBytes};
+ghost use Rattle.offered.specs.Claims.{FirstBytes, RecordFirst};
 
 // What the list of the job comes to; or the record's refusal, with the byte where the field starts.
 pub enum Offered {
@@ -87,4 +87,9 @@ pub fn list_job(bytes: &[u8], lowest: u32, pitch: u32, number: u32) -> Offered
 // Claim: of a longer input the first 1,024 bytes decide the answer.
 pub fn first_bytes()
     ensures { λ _. ⌜ FirstBytes ⌝ }
+{}
+
+// Claim: a record that is refused is told before anything else, and writes nothing.
+pub fn record_first()
+    ensures { λ _. ⌜ RecordFirst ⌝ }
 {}

@@ -1,6 +1,5 @@
 -- `entries::tell_path_turn` meets its contract, answer by answer.
-use Prim.Native.Nat.{ℕ}
-use mathlib.Core.Path.{_≡_, refl, sym, _∙_, subst}
+use mathlib.Core.Path.{_≡_, refl, _∙_}
 use mathlib.Core.List.{List, [], _∷_}
 use lib.Seq.{sets}
 use lib.IntN.{ℤ}
@@ -8,17 +7,13 @@ use denote.Ref.{now}
 use borrow.Author.Needs.{needs}
 use Rattle.exact.proofs.Machine.{reread}
 use Rattle.heading.specs.declared.Advance.{Advance}
-use Rattle.heading.specs.declared.PathTurn.{PathTurn}
-use Rattle.entries.specs.Answers.{TellEnsures, pathTold}
-use Rattle.entries.proofs.EntryLaws.{written-on}
+use Rattle.entries.specs.Answers.{pathTold}
+use Rattle.entries.proofs.EntryLaws.{written-on, told-as}
 use Rattle.entries.proofs.tell_path_turn.Statement.{statement}
 use Rattle.entries.proofs.tell_path_turn.Tie as tie
 
 abbrev run : tie.Start → List ℤ
 run s = now (s .args .answer)
-
-told : (s : tie.Start) (a : PathTurn) (n : ℕ) (after : List ℤ) → s .args .turn ≡ a → TellEnsures (pathTold a) (run s) n after → TellEnsures (pathTold (s .args .turn)) (run s) n after
-told s a n after e t = subst (λ (x : PathTurn). TellEnsures (pathTold x) (run s) n after) (sym e) t
 
 -- each coordinate is read back from its bits as it was
 abbrev advance : tie.After-turn → Advance
@@ -65,7 +60,7 @@ returns c =
     let my = move-y (c .before .before) in
     let first = c .before .before .before .before .before .before .put-pair .ensures ∙ (λ i. sets (run s) 0 (hx i ∷ hy i ∷ [])) in
     let second = c .before .put-pair2 .ensures ∙ (λ i. sets (c .before .before .before .before .before .before .put-pair .last .0) 2 (mx i ∷ my i ∷ [])) in
-    told s _ 0 _ (k .turn .given .1)
+    told-as pathTold (run s) 0 _ _ (s .args .turn) (k .turn .given .1)
     (record { number = refl; run = written-on (run s) (a .heading .x ∷ a .heading .y ∷ []) (a .shift .x ∷ a .shift .y ∷ []) first second })
 
 returns-2 : tie.Need-returns-2

@@ -1,19 +1,18 @@
 -- `entries::tell_sweep` meets its contract, answer by answer.
-use Prim.Native.Nat.{ℕ}
-use mathlib.Core.Path.{_≡_, refl, sym, subst}
+use mathlib.Core.Path.{refl, subst}
 use mathlib.Core.List.{List}
 use native.Mathlib.Omega.{arith}
 use lib.IntN.{ℤ}
 use denote.Ref.{now}
 use borrow.Author.Needs.{needs}
-use Rattle.swept.specs.declared.Swept.{Swept}
-use Rattle.entries.specs.Answers.{TellEnsures, sweepTold}
+use Rattle.entries.specs.Answers.{sweepTold}
 use Rattle.entries.specs.Inner.{SweptFits}
+use Rattle.entries.proofs.EntryLaws.{told-as}
 use Rattle.entries.proofs.tell_sweep.Statement.{statement}
 use Rattle.entries.proofs.tell_sweep.Tie as tie
 
-told : (s : tie.Start) (a : Swept) (n : ℕ) (after : List ℤ) → s .args .swept ≡ a → TellEnsures (sweepTold a) (now (s .args .answer)) n after → TellEnsures (sweepTold (s .args .swept)) (now (s .args .answer)) n after
-told s a n after e t = subst (λ (x : Swept). TellEnsures (sweepTold x) (now (s .args .answer)) n after) (sym e) t
+abbrev run : tie.Start → List ℤ
+run s = now (s .args .answer)
 
 enum-known-swept : tie.Need-enum-known-swept
 enum-known-swept c = search needs
@@ -40,13 +39,13 @@ same-length : tie.Need-same-length
 same-length c = search needs
 
 returns : tie.Need-returns
-returns c = let k = c .before .before .before .before in told (k .before .before) _ 0 _ (k .swept .given .1) (record { number = refl; run = c .before .put-finish .ensures })
+returns c = let k = c .before .before .before .before in told-as sweepTold (run (k .before .before)) 0 _ _ (k .before .before .args .swept) (k .swept .given .1) (record { number = refl; run = c .before .put-finish .ensures })
 
 returns-2 : tie.Need-returns-2
-returns-2 c = let k = c .before .before in told (k .before .before) _ _ _ (k .swept2 .given .1) (record { number = c .at-unit .ensures; run = refl })
+returns-2 c = let k = c .before .before in told-as sweepTold (run (k .before .before)) _ _ _ (k .before .before .args .swept) (k .swept2 .given .1) (record { number = c .at-unit .ensures; run = refl })
 
 returns-3 : tie.Need-returns-3
-returns-3 c = let k = c .before .before in told (k .before .before) _ _ _ (k .swept3 .given .1) (record { number = c .at-byte .ensures; run = refl })
+returns-3 c = let k = c .before .before in told-as sweepTold (run (k .before .before)) _ _ _ (k .before .before .args .swept) (k .swept3 .given .1) (record { number = c .at-byte .ensures; run = refl })
 
 pub tell-sweep-spec : {M : Type 1} → statement M
 tell-sweep-spec =

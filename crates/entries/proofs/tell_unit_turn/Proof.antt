@@ -1,6 +1,5 @@
 -- `entries::tell_unit_turn` meets its contract, answer by answer.
-use Prim.Native.Nat.{ℕ}
-use mathlib.Core.Path.{_≡_, refl, sym, _∙_, subst}
+use mathlib.Core.Path.{_≡_, refl, _∙_}
 use mathlib.Core.List.{List, [], _∷_}
 use lib.Seq.{sets}
 use lib.IntN.{ℤ}
@@ -8,16 +7,13 @@ use denote.Ref.{now}
 use borrow.Author.Needs.{needs}
 use Rattle.exact.proofs.Machine.{reread}
 use Rattle.plane.specs.declared.Vec2.{Vec2}
-use Rattle.unit.specs.declared.UnitTurn.{UnitTurn}
-use Rattle.entries.specs.Answers.{TellEnsures, unitTold}
+use Rattle.entries.specs.Answers.{unitTold}
+use Rattle.entries.proofs.EntryLaws.{told-as}
 use Rattle.entries.proofs.tell_unit_turn.Statement.{statement}
 use Rattle.entries.proofs.tell_unit_turn.Tie as tie
 
 abbrev run : tie.Start → List ℤ
 run s = now (s .args .answer)
-
-told : (s : tie.Start) (a : UnitTurn) (n : ℕ) (after : List ℤ) → s .args .turn ≡ a → TellEnsures (unitTold a) (run s) n after → TellEnsures (unitTold (s .args .turn)) (run s) n after
-told s a n after e t = subst (λ (x : UnitTurn). TellEnsures (unitTold x) (run s) n after) (sym e) t
 
 -- each coordinate is read back from its bits as it was
 abbrev vector : tie.After-turn → Vec2
@@ -50,7 +46,7 @@ returns c =
     let s = k .before .before in
     let x = x-alone (c .before .before .before) in
     let y = y-alone (c .before .before) in
-    told s _ 0 _ (k .turn .given .1) (record { number = refl; run = c .before .put-pair .ensures ∙ (λ i. sets (run s) 0 (x i ∷ y i ∷ [])) })
+    told-as unitTold (run s) 0 _ _ (s .args .turn) (k .turn .given .1) (record { number = refl; run = c .before .put-pair .ensures ∙ (λ i. sets (run s) 0 (x i ∷ y i ∷ [])) })
 
 returns-2 : tie.Need-returns-2
 returns-2 c = search needs

@@ -1,22 +1,17 @@
 -- `entries::lists::tell_list` meets its contract, list by list.
-use Prim.Native.Nat.{ℕ}
-use mathlib.Core.Path.{_≡_, refl, sym, _∙_, subst}
+use mathlib.Core.Path.{refl, _∙_}
 use mathlib.Core.List.{List}
 use lib.Seq.{sets}
 use lib.IntN.{ℤ, pos}
 use denote.Ref.{now}
 use borrow.Author.Needs.{needs}
-use Rattle.ranking.specs.declared.Listed.{Listed}
-use Rattle.entries.specs.Answers.{TellEnsures}
 use Rattle.entries.specs.Lists.{threeEntries, listTold}
+use Rattle.entries.proofs.EntryLaws.{told-as}
 use Rattle.entries.proofs.lists.tell_list.Statement.{statement}
 use Rattle.entries.proofs.lists.tell_list.Tie as tie
 
 abbrev run : tie.Start → List ℤ
 run s = now (s .args .answer)
-
-told : (s : tie.Start) (l : Listed) (n : ℕ) (after : List ℤ) → s .args .listed ≡ l → TellEnsures (listTold l) (run s) n after → TellEnsures (listTold (s .args .listed)) (run s) n after
-told s l n after e t = subst (λ (x : Listed). TellEnsures (listTold x) (run s) n after) (sym e) t
 
 enum-known-listed : tie.Need-enum-known-listed
 enum-known-listed c = search needs
@@ -60,7 +55,7 @@ returns c =
     let s = k .before .before in
     let first = c .before .before .before .no-setting .ensures in
     let second = c .before .before .no-setting2 .ensures in
-    told s _ 0 _ (k .listed .given .1) (record { number = refl; run = c .before .put-list .ensures ∙ (λ i. sets (run s) 0 (threeEntries (pos 1) (k .listed .given .0 .0) (first i) (second i))) })
+    told-as listTold (run s) 0 _ _ (s .args .listed) (k .listed .given .1) (record { number = refl; run = c .before .put-list .ensures ∙ (λ i. sets (run s) 0 (threeEntries (pos 1) (k .listed .given .0 .0) (first i) (second i))) })
 
 same-length-2 : tie.Need-same-length-2
 same-length-2 c = search needs
@@ -70,7 +65,7 @@ returns-2 c =
     let k = c .before .before .before .before .before in
     let s = k .before .before in
     let third = c .before .before .no-setting3 .ensures in
-    told s _ 0 _ (k .listed2 .given .1) (record { number = refl; run = c .before .put-list2 .ensures ∙ (λ i. sets (run s) 0 (threeEntries (pos 2) (k .listed2 .given .0 .0) (k .listed2 .given .0 .1 .0) (third i))) })
+    told-as listTold (run s) 0 _ _ (s .args .listed) (k .listed2 .given .1) (record { number = refl; run = c .before .put-list2 .ensures ∙ (λ i. sets (run s) 0 (threeEntries (pos 2) (k .listed2 .given .0 .0) (k .listed2 .given .0 .1 .0) (third i))) })
 
 same-length-3 : tie.Need-same-length-3
 same-length-3 c = search needs
@@ -78,7 +73,7 @@ same-length-3 c = search needs
 returns-3 : tie.Need-returns-3
 returns-3 c =
     let k = c .before .before .before .before in
-    told (k .before .before) _ 0 _ (k .listed3 .given .1) (record { number = refl; run = c .before .put-list3 .ensures })
+    told-as listTold (run (k .before .before)) 0 _ _ (k .before .before .args .listed) (k .listed3 .given .1) (record { number = refl; run = c .before .put-list3 .ensures })
 
 returns-4 : tie.Need-returns-4
 returns-4 c = search needs

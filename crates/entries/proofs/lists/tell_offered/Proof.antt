@@ -1,19 +1,17 @@
 -- `entries::lists::tell_offered` meets its contract, answer by answer.
-use Prim.Native.Nat.{ℕ}
-use mathlib.Core.Path.{_≡_, refl, sym, subst}
+use mathlib.Core.Path.{refl, subst}
 use mathlib.Core.List.{List}
 use lib.IntN.{ℤ}
 use denote.Ref.{now}
 use borrow.Author.Needs.{needs}
-use Rattle.offered.specs.declared.Offered.{Offered}
-use Rattle.entries.specs.Answers.{TellEnsures}
 use Rattle.entries.specs.Lists.{settingsTold}
 use Rattle.entries.specs.Inner.{OfferedFits}
+use Rattle.entries.proofs.EntryLaws.{told-as}
 use Rattle.entries.proofs.lists.tell_offered.Statement.{statement}
 use Rattle.entries.proofs.lists.tell_offered.Tie as tie
 
-told : (s : tie.Start) (a : Offered) (n : ℕ) (after : List ℤ) → s .args .offered ≡ a → TellEnsures (settingsTold a) (now (s .args .answer)) n after → TellEnsures (settingsTold (s .args .offered)) (now (s .args .answer)) n after
-told s a n after e t = subst (λ (x : Offered). TellEnsures (settingsTold x) (now (s .args .answer)) n after) (sym e) t
+abbrev run : tie.Start → List ℤ
+run s = now (s .args .answer)
 
 enum-known-offered : tie.Need-enum-known-offered
 enum-known-offered c = search needs
@@ -31,10 +29,10 @@ same-length : tie.Need-same-length
 same-length c = search needs
 
 returns : tie.Need-returns
-returns c = let k = c .before .before .before .before in told (k .before .before) _ _ _ (k .offered .given .1) (c .before .tell-list .ensures)
+returns c = let k = c .before .before .before .before in told-as settingsTold (run (k .before .before)) _ _ _ (k .before .before .args .offered) (k .offered .given .1) (c .before .tell-list .ensures)
 
 returns-2 : tie.Need-returns-2
-returns-2 c = let k = c .before .before in told (k .before .before) _ _ _ (k .offered2 .given .1) (record { number = c .at-byte .ensures; run = refl })
+returns-2 c = let k = c .before .before in told-as settingsTold (run (k .before .before)) _ _ _ (k .before .before .args .offered) (k .offered2 .given .1) (record { number = c .at-byte .ensures; run = refl })
 
 pub tell-offered-spec : {M : Type 1} → statement M
 tell-offered-spec =
