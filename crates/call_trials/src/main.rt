@@ -2,7 +2,6 @@
 // answers and every entry of the lent runs is held to the line.
 // A line is the kind of the call, what is handed over, ` = ` and what is answered, a run being its length and then its entries. The answer begins
 // with the refusal's number or 0; beside a refusal what is answered by value stands as zeros, and a record or a run as it was handed in.
-mod lists;
 mod others;
 
 use libc::STDOUT_FILENO;
@@ -33,7 +32,7 @@ fn make_call(line: &[u8], kind: usize, c: Cursor) -> Cursor {
         5 => others::lay(line, c),
         6 => others::path_turn(line, c),
         7 => others::unit_turn(line, c),
-        8 => lists::list(line, c),
+        8 => trial_lists::list(line, c),
         _ => trial_tools::reading::tested(c, false),
     }
 }

@@ -5,7 +5,8 @@ use Rattle.reaches.specs.declared.Best.the-variants.{Found}
 use Rattle.run.specs.declared.Finish.{Finish}
 use Rattle.swept.specs.declared.Swept.the-variants as S
 use Rattle.offered.specs.declared.Offered.the-variants as O
-use Rattle.entries.specs.Inner.{Room, FinishFits, ByteFits, UnitFits, AnswerFits, OfferFits}
+use Rattle.answer_run.proofs.Witnesses.{room-met, byte-met, unit-met}
+use Rattle.entries.specs.Inner.{FinishFits, AnswerFits, OfferFits}
 
 abbrev longest : Finish
 longest = record {
@@ -14,18 +15,8 @@ longest = record {
   front = record { x = pos 150000000; y = negsuc 149999999 };
 }
 
-room-met : Room 0 8 8
-room-met = record { room = omega arith }
-
 finish-met : FinishFits longest 8
 finish-met = record { room = room-met; ranges = record { steps = omega arith; widest = omega arith } }
-
--- the greatest byte, unit and step
-byte-met : ByteFits 1024
-byte-met = record { byte = omega arith }
-
-unit-met : UnitFits 4 2000
-unit-met = record { unit = omega arith; step = omega arith }
 
 answer-met : AnswerFits (S.Stopped 23 4 2000) 8
 answer-met = record { room = room-met; ranges = unit-met }

@@ -1,27 +1,16 @@
 -- What the functions that are no entries require of their callers.
-use Prim.Native.Nat.{ℕ, _+_, _≤_}
+use Prim.Native.Nat.{ℕ}
 use Rattle.run.specs.declared.Finish.{Finish}
 use Rattle.swept.specs.declared.Swept.{Swept}
 use Rattle.swept.specs.declared.Swept.the-variants as S
 use Rattle.swept.specs.Ranges.{FinishedSo}
 use Rattle.offered.specs.declared.Offered.{Offered}
 use Rattle.offered.specs.declared.Offered.the-variants as O
-
--- k entries from `at` on, in a run of n
-pub record Room (at k n : ℕ) : Type 0 where
-  pub room : at + k ≤ n
+use Rattle.answer_run.specs.Inner.{Room, ByteFits, UnitFits}
 
 pub record FinishFits (f : Finish) (n : ℕ) : Type 0 where
   pub room : Room 0 8 n
   pub ranges : FinishedSo f
-
--- a byte, or a unit and a step, that one number holds beside a refusal's own
-pub record ByteFits (p : ℕ) : Type 0 where
-  pub byte : p ≤ 1024
-
-pub record UnitFits (u k : ℕ) : Type 0 where
-  pub unit : u ≤ 4
-  pub step : k ≤ 2000
 
 -- the answer of a job's walk
 abbrev pub SweptFits : Swept → Type 0

@@ -6,7 +6,7 @@ use Rattle.ranking.specs.declared.Listed.{Listed}
 use Rattle.ranking.specs.declared.Listed.the-variants as L
 use Rattle.offered.specs.declared.Offered.{Offered}
 use Rattle.offered.specs.declared.Offered.the-variants as O
-use Rattle.entries.specs.Answers.{Told, told, atByte}
+use Rattle.answer_run.specs.Answers.{Told, told, atByte}
 
 -- wheelbase and widest width
 abbrev pub settingEntries : Setting → List ℤ

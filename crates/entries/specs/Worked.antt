@@ -11,7 +11,9 @@ use Rattle.run.specs.declared.Finish.{Finish}
 use Rattle.swept.specs.declared.Swept.the-variants as S
 use Rattle.ranking.specs.declared.Listed.the-variants as L
 use Rattle.offered.specs.declared.Offered.the-variants as O
-use Rattle.entries.specs.Answers.{told, sweepTold, pathTold, unitTold}
+use Rattle.answer_run.specs.Answers.{told}
+use Rattle.answer_run.specs.Turns.{pathTold, unitTold}
+use Rattle.entries.specs.Answers.{sweepTold}
 use Rattle.entries.specs.Lists.{settingsTold}
 
 abbrev pub northEast : Vec2

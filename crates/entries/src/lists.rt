@@ -5,9 +5,10 @@ use ranking::Setting;
 ghost use mathlib.Core.Path.{_≡_};
 ghost use lib.ListN.{length};
 ghost use lib.Seq.{sets};
-ghost use Rattle.entries.specs.Answers.{TellEnsures};
+ghost use Rattle.answer_run.specs.Answers.{TellEnsures};
+ghost use Rattle.answer_run.specs.Inner.{Room};
 ghost use Rattle.entries.specs.Lists.{noSetting, settingEntries, threeEntries, listTold, settingsTold};
-ghost use Rattle.entries.specs.Inner.{Room, OfferFits};
+ghost use Rattle.entries.specs.Inner.{OfferFits};
 
 // What stands where no setting is listed.
 fn no_setting() -> Setting
@@ -23,7 +24,7 @@ fn put_setting(run: &mut [i64], at: usize, s: Setting)
     requires { ⌜ Room at 2 (length (now run)) ⌝ }
     ensures { λ _. ⌜ now (run .exit) ≡ sets (now (run .entry)) at (settingEntries s) ⌝ }
 {
-    crate::put_pair(run, at, s.wheelbase as i64, s.width);
+    answer_run::put_pair(run, at, s.wheelbase as i64, s.width);
 }
 
 // The first seven entries of a run: how many are listed, and three settings.
@@ -66,6 +67,6 @@ pub fn tell_offered(offered: Offered, answer: &mut [i64]) -> u32
 {
     match offered {
         Offered::Listed(listed) => tell_list(listed, answer),
-        Offered::Refused(number, byte) => crate::at_byte(number, byte),
+        Offered::Refused(number, byte) => answer_run::at_byte(number, byte),
     }
 }

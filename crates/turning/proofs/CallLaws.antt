@@ -15,10 +15,11 @@ use Rattle.swept.specs.declared.Swept.the-variants as S
 use Rattle.swept.specs.Swept.{sweptOf, sweptInto}
 use Rattle.swept.specs.Ranges.{RefusedSo, SweptEnsures, IntoSo, IntoEnsures}
 use Rattle.swept.proofs.SweptLaws.{answered-into}
-use Rattle.entries.specs.Answers.{TellEnsures, atByte, atUnit, sweepTold}
+use Rattle.answer_run.specs.Answers.{TellEnsures, Answered, atByte, atUnit}
+use Rattle.answer_run.proofs.AnswerLaws.{too-short, answered-as}
+use Rattle.entries.specs.Answers.{sweepTold}
 use Rattle.entries.specs.Inner.{SweptFits}
-use Rattle.turning.specs.Calls.{Answered, numberIn, byteIn, unitIn, stepIn, ByteTold, TakenApart, SweepCalled, RunCalled}
-use Rattle.turning.proofs.AnswerLaws.{too-short, answered-as}
+use Rattle.turning.specs.Calls.{numberIn, byteIn, unitIn, stepIn, ByteTold, TakenApart, SweepCalled, RunCalled}
 
 -- a number below 256, with a byte, or with a unit below 256 and a step
 byte-apart : (n p : ℕ) → n < 256 → (numberIn (atByte n p) ≡ n) × (byteIn (atByte n p) ≡ p)

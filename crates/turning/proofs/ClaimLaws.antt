@@ -25,10 +25,13 @@ use Rattle.bogie.specs.Settings.{Rail, lastSetting, jobSet}
 use Rattle.ranking.specs.Ranking.{listedOf}
 use Rattle.bogie.specs.List.{listRefusal, rankedSettings, listAnswer}
 use Rattle.offered.specs.Offered.{offeredInto, pathInto as listPath, reachesInto as listReaches}
-use Rattle.entries.specs.Answers.{Told, sweepTold, pathTold, unitTold}
+use Rattle.answer_run.specs.Answers.{Told, Answered}
+use Rattle.answer_run.specs.Turns.{pathTold, unitTold}
+use Rattle.answer_run.proofs.BareLaws.{path-bare, unit-bare}
+use Rattle.entries.specs.Answers.{sweepTold}
 use Rattle.entries.specs.Lists.{settingsTold}
-use Rattle.entries.proofs.BareLaws.{sweep-bare, path-bare, unit-bare, settings-bare}
-use Rattle.turning.specs.Calls.{Answered, UnitTold, TakenApart, RunCalled}
+use Rattle.entries.proofs.BareLaws.{sweep-bare, settings-bare}
+use Rattle.turning.specs.Calls.{UnitTold, TakenApart, RunCalled}
 use Rattle.turning.specs.Settings.{ListApart, OfferApart, SettingsCalled}
 use Rattle.turning.specs.Claims.{BeforeWalk, BeforeWalks, RefusalWritesNothing}
 

@@ -1,4 +1,3 @@
-pub mod AnswerLaws
 pub mod CallLaws
 pub mod SettingsLaws
 pub mod ClaimLaws

@@ -17,11 +17,11 @@ use Rattle.offered.specs.declared.Offered.{Offered}
 use Rattle.offered.specs.declared.Offered.the-variants as O
 use Rattle.offered.specs.Offered.{offeredInto}
 use Rattle.offered.specs.Ranges.{ListedSo, OfferedSo, ListIntoEnsures}
-use Rattle.entries.specs.Answers.{TellEnsures}
+use Rattle.answer_run.specs.Answers.{TellEnsures}
+use Rattle.answer_run.proofs.AnswerLaws.{too-short, answered-as}
 use Rattle.entries.specs.Lists.{listTold, settingsTold}
 use Rattle.entries.specs.Inner.{OfferedFits}
 use Rattle.turning.specs.Settings.{ListApart, OfferApart, SettingsCalled}
-use Rattle.turning.proofs.AnswerLaws.{too-short, answered-as}
 use Rattle.turning.proofs.CallLaws.{record-refused}
 
 list-refusal : (n : ℕ) → ListedSo (L.Refused n) → n < 256

@@ -1,10 +1,9 @@
--- What a call from C or Rust comes to: the answer run, and for `turning_sweep` and `turning_run` the number, taken apart as the header's macros do it, and the caller's seven runs.
+-- What a call of `turning_sweep` or `turning_run` comes to: the answer run, the number, taken apart as the header's macros do it, and the caller's seven runs.
 use Prim.Native.Nat.{ℕ, _/_, _%_, _≤_}
 use mathlib.Core.Path.{_≡_}
 use mathlib.Core.List.{List}
 use mathlib.Core.Logic.{_⊎_}
 use lib.ListN.{length}
-use lib.Seq.{sets}
 use lib.Dec.{leb}
 use lib.IntN.{ℤ}
 use Rattle.number.specs.Read.{pick}
@@ -15,12 +14,8 @@ use Rattle.swept.specs.declared.Swept.{Swept}
 use Rattle.swept.specs.declared.Swept.the-variants as S
 use Rattle.swept.specs.Swept.{sweptOf, sweptInto, pathInto, reachesInto}
 use Rattle.swept.specs.Ranges.{StoppedSo}
-use Rattle.entries.specs.Answers.{Told, sweepTold}
-
--- 21 where the run has too few entries, and nothing is written; the entries past those written stay
-pub record Answered (room : ℕ) (t : Told) (before : List ℤ) (n : ℕ) (after : List ℤ) : Type 0 where
-  pub number : n ≡ pick (leb room (length before)) (t .number) 21
-  pub run : after ≡ pick (leb room (length before)) (sets before 0 (t .entries)) before
+use Rattle.answer_run.specs.Answers.{Answered}
+use Rattle.entries.specs.Answers.{sweepTold}
 
 -- TURNING_NUMBER, TURNING_BYTE, TURNING_UNIT and TURNING_STEP
 abbrev pub numberIn : ℕ → ℕ

@@ -8,8 +8,9 @@ use Rattle.unit.specs.declared.UnitTurn.{UnitTurn}
 use Rattle.path.specs.Laying.{PathRuns}
 use Rattle.reaches.specs.Cells.{Reaches}
 use Rattle.bogie.specs.Settings.{Rail}
-use Rattle.entries.specs.Answers.{pathTold, unitTold}
-use Rattle.turning.specs.Calls.{Answered, numberIn, SweepCalled, RunCalled}
+use Rattle.answer_run.specs.Answers.{Answered}
+use Rattle.answer_run.specs.Turns.{pathTold, unitTold}
+use Rattle.turning.specs.Calls.{numberIn, SweepCalled, RunCalled}
 use Rattle.turning.specs.Settings.{SettingsCalled}
 
 -- refused before the walk begins: the job by 1 to 10, or a run too short by 21

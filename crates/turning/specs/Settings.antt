@@ -12,12 +12,13 @@ use Rattle.reaches.specs.Cells.{Reaches}
 use Rattle.ranking.specs.declared.Listed.{Listed}
 use Rattle.ranking.specs.declared.Listed.the-variants as L
 use Rattle.bogie.specs.Settings.{Rail}
+use Rattle.answer_run.specs.Answers.{Answered}
 use Rattle.entries.specs.Lists.{settingsTold}
 use Rattle.offered.specs.declared.Offered.{Offered}
 use Rattle.offered.specs.declared.Offered.the-variants as O
 use Rattle.offered.specs.Offered.{offeredInto, pathInto, reachesInto}
 use Rattle.offered.specs.Ranges.{ListedSo}
-use Rattle.turning.specs.Calls.{Answered, numberIn, byteIn, ByteTold}
+use Rattle.turning.specs.Calls.{numberIn, byteIn, ByteTold}
 
 -- by 21, 29 or 30, without a byte
 pub record ListTold (a n : ℕ) : Type 0 where

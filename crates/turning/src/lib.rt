@@ -1,13 +1,13 @@
 // The turning check for programs in C and Rust: numbers and slices in, a number back, and an answer in a lent run.
 pub mod settings;
 
-use plane::Vec2;
 ghost use Rattle.heading.specs.PathTurn.{pathTurn};
 ghost use Rattle.unit.specs.Turn.{unitTurn};
 ghost use Rattle.path.specs.Laying.{pathRuns};
 ghost use Rattle.reaches.specs.Cells.{reachRuns};
-ghost use Rattle.entries.specs.Answers.{pathTold, unitTold};
-ghost use Rattle.turning.specs.Calls.{Answered, SweepCalled, RunCalled};
+ghost use Rattle.answer_run.specs.Answers.{Answered};
+ghost use Rattle.answer_run.specs.Turns.{pathTold, unitTold};
+ghost use Rattle.turning.specs.Calls.{SweepCalled, RunCalled};
 ghost use Rattle.turning.specs.Claims.{RefusalWritesNothing};
 
 // How many entries the answer run of a job must have.
@@ -60,10 +60,7 @@ pub extern "C" fn turning_run(
 pub extern "C" fn turning_path_turn(gx: i64, gy: i64, s: u32, r: i32, answer: &mut [i64]) -> u32
     ensures { λ n. ⌜ Answered 4 (pathTold (pathTurn (record { x = gx; y = gy }) s r)) (now (answer .entry)) n (now (answer .exit)) ⌝ }
 {
-    if answer.len() < 4 {
-        return 21;
-    }
-    entries::tell_path_turn(heading::turn_path(Vec2 { x: gx, y: gy }, s, r), answer)
+    answer_run::turns::path_turn(gx, gy, s, r, answer)
 }
 
 // The turn of a single unit: 0 with its new vector, or 27 or 22.
@@ -78,13 +75,7 @@ pub extern "C" fn turning_unit_turn(
 ) -> u32
     ensures { λ r. ⌜ Answered 2 (unitTold (unitTurn (record { x = dx; y = dy }) (record { x = fx; y = fy }) wheelbase)) (now (answer .entry)) r (now (answer .exit)) ⌝ }
 {
-    if answer.len() < 2 {
-        return 21;
-    }
-    entries::tell_unit_turn(
-        unit::turn_unit(Vec2 { x: dx, y: dy }, Vec2 { x: fx, y: fy }, wheelbase),
-        answer,
-    )
+    answer_run::turns::unit_turn(dx, dy, fx, fy, wheelbase, answer)
 }
 
 // Claim: where a call refuses, it has written nothing.

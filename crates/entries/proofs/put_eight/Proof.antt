@@ -3,7 +3,7 @@ use mathlib.Core.List.{[], _∷_}
 use borrow.Author.Needs.{needs}
 use denote.Ref.{now}
 use mir.Facts.{toZ-ofZ}
-use Rattle.entries.proofs.EntryLaws.{written-on}
+use Rattle.answer_run.proofs.EntryLaws.{written-on}
 use Rattle.entries.proofs.put_eight.Statement.{statement}
 use Rattle.entries.proofs.put_eight.Tie as tie
 

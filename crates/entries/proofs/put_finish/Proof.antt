@@ -12,7 +12,7 @@ use Rattle.reaches.specs.declared.Place.{Place}
 use Rattle.run.specs.declared.Finish.{Finish}
 use Rattle.swept.specs.Ranges.{OnPath}
 use Rattle.entries.specs.Answers.{zeros, finishWith, finishEntries}
-use Rattle.entries.proofs.EntryLaws.{count-fits, count-alone}
+use Rattle.answer_run.proofs.EntryLaws.{count-fits, count-alone}
 use borrow.Author.Needs.{needs}
 use Rattle.entries.proofs.put_finish.Statement.{statement}
 use Rattle.entries.proofs.put_finish.Tie as tie

@@ -7,7 +7,7 @@ use denote.Ref.{now}
 use borrow.Author.Needs.{needs}
 use Rattle.entries.specs.Answers.{sweepTold}
 use Rattle.entries.specs.Inner.{SweptFits}
-use Rattle.entries.proofs.EntryLaws.{told-as}
+use Rattle.answer_run.proofs.EntryLaws.{told-as}
 use Rattle.entries.proofs.tell_sweep.Statement.{statement}
 use Rattle.entries.proofs.tell_sweep.Tie as tie
 

@@ -7,7 +7,7 @@ use denote.Ref.{now}
 use mir.Facts.{toZ-ofZ}
 use borrow.Author.Needs.{needs}
 use Rattle.entries.specs.Lists.{settingEntries}
-use Rattle.entries.proofs.EntryLaws.{written-on}
+use Rattle.answer_run.proofs.EntryLaws.{written-on}
 use Rattle.entries.proofs.lists.put_list.Statement.{statement}
 use Rattle.entries.proofs.lists.put_list.Tie as tie
 

@@ -7,7 +7,7 @@ use lib.IntN.{pos}
 use denote.Ref.{now}
 use borrow.Author.Needs.{needs}
 use Rattle.exact.proofs.Machine.{reread}
-use Rattle.entries.proofs.EntryLaws.{count-alone}
+use Rattle.answer_run.proofs.EntryLaws.{count-alone}
 use Rattle.entries.proofs.lists.put_setting.Statement.{statement}
 use Rattle.entries.proofs.lists.put_setting.Tie as tie
 

@@ -6,7 +6,7 @@ use lib.IntN.{ℤ, pos}
 use denote.Ref.{now}
 use borrow.Author.Needs.{needs}
 use Rattle.entries.specs.Lists.{threeEntries, listTold}
-use Rattle.entries.proofs.EntryLaws.{told-as}
+use Rattle.answer_run.proofs.EntryLaws.{told-as}
 use Rattle.entries.proofs.lists.tell_list.Statement.{statement}
 use Rattle.entries.proofs.lists.tell_list.Tie as tie
 

@@ -6,7 +6,7 @@ use denote.Ref.{now}
 use borrow.Author.Needs.{needs}
 use Rattle.entries.specs.Lists.{settingsTold}
 use Rattle.entries.specs.Inner.{OfferedFits}
-use Rattle.entries.proofs.EntryLaws.{told-as}
+use Rattle.answer_run.proofs.EntryLaws.{told-as}
 use Rattle.entries.proofs.lists.tell_offered.Statement.{statement}
 use Rattle.entries.proofs.lists.tell_offered.Tie as tie
 

@@ -1,4 +1,4 @@
--- `entries::tell_path_turn` meets its contract, answer by answer.
+-- `answer_run::turns::tell_path_turn` meets its contract, answer by answer.
 use mathlib.Core.Path.{_≡_, refl, _∙_}
 use mathlib.Core.List.{List, [], _∷_}
 use lib.Seq.{sets}
@@ -7,10 +7,10 @@ use denote.Ref.{now}
 use borrow.Author.Needs.{needs}
 use Rattle.exact.proofs.Machine.{reread}
 use Rattle.heading.specs.declared.Advance.{Advance}
-use Rattle.entries.specs.Answers.{pathTold}
-use Rattle.entries.proofs.EntryLaws.{written-on, told-as}
-use Rattle.entries.proofs.tell_path_turn.Statement.{statement}
-use Rattle.entries.proofs.tell_path_turn.Tie as tie
+use Rattle.answer_run.specs.Turns.{pathTold}
+use Rattle.answer_run.proofs.EntryLaws.{written-on, told-as}
+use Rattle.answer_run.proofs.turns.tell_path_turn.Statement.{statement}
+use Rattle.answer_run.proofs.turns.tell_path_turn.Tie as tie
 
 abbrev run : tie.Start → List ℤ
 run s = now (s .args .answer)

@@ -1,11 +1,11 @@
--- `entries::put_pair` meets its contract.
+-- `answer_run::put_pair` meets its contract.
 use native.Mathlib.Omega.{arith}
 use native.Mathlib.Numerals.{add-one}
 use lib.ListN.{length-set}
 use mir.Facts.{toZ-ofZ}
 use borrow.Author.Needs.{needs}
-use Rattle.entries.proofs.put_pair.Statement.{statement}
-use Rattle.entries.proofs.put_pair.Tie as tie
+use Rattle.answer_run.proofs.put_pair.Statement.{statement}
+use Rattle.answer_run.proofs.put_pair.Tie as tie
 
 mul-x : tie.Need-mul-x
 mul-x c = search needs

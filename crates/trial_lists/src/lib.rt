@@ -1,4 +1,4 @@
-// Calls of the list of settings.
+// The list of settings called with what a table's line hands over; its answer and the seven runs are held to the line.
 use job::Job;
 use ranking::Listed;
 use ranking::Setting;

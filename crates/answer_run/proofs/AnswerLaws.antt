@@ -6,8 +6,8 @@ use borrow.Author.Tests.{le-leb, lt-leb}
 use lib.ListN.{length}
 use lib.Seq.{sets}
 use lib.IntN.{ℤ}
-use Rattle.entries.specs.Answers.{Told, TellEnsures}
-use Rattle.turning.specs.Calls.{Answered}
+use Rattle.answer_run.specs.Answers.{Told, TellEnsures}
+use Rattle.answer_run.specs.Answers.{Answered}
 
 pub too-short : (room : ℕ) (t : Told) (before : List ℤ) → length before < room → Answered room t before 21 before
 too-short room t before h = let e = lt-leb room (length before) h in record { number = rw e refl; run = rw e refl }

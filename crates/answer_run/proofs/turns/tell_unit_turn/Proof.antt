@@ -1,4 +1,4 @@
--- `entries::tell_unit_turn` meets its contract, answer by answer.
+-- `answer_run::turns::tell_unit_turn` meets its contract, answer by answer.
 use mathlib.Core.Path.{_≡_, refl, _∙_}
 use mathlib.Core.List.{List, [], _∷_}
 use lib.Seq.{sets}
@@ -7,10 +7,10 @@ use denote.Ref.{now}
 use borrow.Author.Needs.{needs}
 use Rattle.exact.proofs.Machine.{reread}
 use Rattle.plane.specs.declared.Vec2.{Vec2}
-use Rattle.entries.specs.Answers.{unitTold}
-use Rattle.entries.proofs.EntryLaws.{told-as}
-use Rattle.entries.proofs.tell_unit_turn.Statement.{statement}
-use Rattle.entries.proofs.tell_unit_turn.Tie as tie
+use Rattle.answer_run.specs.Turns.{unitTold}
+use Rattle.answer_run.proofs.EntryLaws.{told-as}
+use Rattle.answer_run.proofs.turns.tell_unit_turn.Statement.{statement}
+use Rattle.answer_run.proofs.turns.tell_unit_turn.Tie as tie
 
 abbrev run : tie.Start → List ℤ
 run s = now (s .args .answer)

@@ -11,7 +11,7 @@ use mir.Val.{SFits}
 use mir.Facts.{toZ-ofZ}
 use Rattle.exact.proofs.Machine.{reread}
 use Rattle.number.proofs.Writing.{sets-append}
-use Rattle.entries.specs.Answers.{Told, TellEnsures}
+use Rattle.answer_run.specs.Answers.{Told, TellEnsures}
 
 -- a count fits an entry, and is read back from its bits as it was
 pub count-fits : (n : ℕ) → n < 2 ^ 63 → SFits w64 (pos n)

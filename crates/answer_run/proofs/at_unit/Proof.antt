@@ -1,8 +1,8 @@
--- `entries::at_unit` meets its contract.
+-- `answer_run::at_unit` meets its contract.
 use native.Mathlib.Omega.{arith}
 use borrow.Author.Needs.{needs}
-use Rattle.entries.proofs.at_unit.Statement.{statement}
-use Rattle.entries.proofs.at_unit.Tie as tie
+use Rattle.answer_run.proofs.at_unit.Statement.{statement}
+use Rattle.answer_run.proofs.at_unit.Tie as tie
 
 cast-result : tie.Need-cast-result
 cast-result c = search needs

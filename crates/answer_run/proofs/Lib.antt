@@ -1,0 +1,4 @@
+pub mod EntryLaws
+pub mod AnswerLaws
+pub mod BareLaws
+pub mod Witnesses
