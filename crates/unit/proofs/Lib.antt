@@ -1,3 +1,4 @@
+pub mod ProductLaws
 pub mod MirrorImage
 pub mod Centre
 pub mod Turning

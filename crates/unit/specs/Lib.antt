@@ -1,3 +1,4 @@
 pub mod Turn
+pub mod Products
 pub mod Coupling
 pub mod Construction

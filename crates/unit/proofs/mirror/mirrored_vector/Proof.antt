@@ -1,123 +1,158 @@
 -- `unit::mirror::mirrored_vector` meets its contract: by the sizes of d and f nothing overflows.
-use mathlib.Core.Path.{_∙_, ap₂}
-use mathlib.Core.List.{[], _∷_}
+use mathlib.Core.Path.{_≡_, sym, _∙_, ap, ap₂, subst}
+use mathlib.Core.List.{List, [], _∷_}
+use borrow.Author.Needs.{needs}
+use lib.Dec.{lit≤}
+use lib.IntN.{ℤ, pos, _-ℤ_, _*ℤ_}
+use Rattle.exact.specs.Size.{Within}
 use Rattle.exact.specs.Nearest.{Divisor}
-use Rattle.exact.proofs.Polynomial.{Expr, var, lit, _⊕_, _⊖_, _⊗_}
-use Rattle.exact.proofs.Machine.{Bounded, none, _∷ᵇ_, fits, held, via}
-use Rattle.plane.specs.Vector.{nearestV}
+use Rattle.exact.proofs.Polynomial.{Expr, var, lit, _⊕_, _⊗_, _⊜_, ring, ring1}
+use Rattle.exact.proofs.Sizes.{within-more}
+use Rattle.exact.proofs.Machine.{Bounded, none, _∷ᵇ_, reread, computed, fits, held, held-within}
+use Rattle.plane.specs.declared.Vec2.{Vec2}
+use Rattle.plane.specs.Vector.{dot, normSq, nearestV}
+use Rattle.unit.specs.Turn.{mirrorLine}
+use Rattle.unit.specs.Products.{shortMost, ShortVector, Dotted, Imaged}
+use Rattle.unit.proofs.ProductLaws.{dotMost, dot-within}
 use Rattle.unit.proofs.mirror.mirrored_vector.Statement.{statement}
 use Rattle.unit.proofs.mirror.mirrored_vector.Tie as tie
 
-abbrev X : Expr
-X = var 0
+abbrev DX : Expr
+DX = var 0 ⊕ var 0
 
-abbrev Y : Expr
-Y = var 1
+abbrev DY : Expr
+DY = var 1 ⊕ var 1
 
 abbrev MX : Expr
-MX = X ⊗ lit 2 ⊕ var 2
+MX = DX ⊕ var 2
 
 abbrev MY : Expr
-MY = Y ⊗ lit 2 ⊕ var 3
+MY = DY ⊕ var 3
 
 abbrev ALONG : Expr
-ALONG = lit 2 ⊗ (MX ⊗ X ⊕ MY ⊗ Y)
+ALONG = var 0 ⊕ var 0
 
-abbrev MM : Expr
-MM = MX ⊗ MX ⊕ MY ⊗ MY
+-- where all four coordinates are read: m, and what its dot products ask
+module _ (c : tie.After-struct-told4) where
+  abbrev d : Vec2
+  d = c .before .before .before .before .args .d
 
-abbrev WX : Expr
-WX = MX ⊗ ALONG ⊖ X ⊗ MM
+  abbrev f : Vec2
+  f = c .before .before .before .before .args .f
 
-abbrev WY : Expr
-WY = MY ⊗ ALONG ⊖ Y ⊗ MM
+  abbrev ρ : List ℤ
+  ρ = d .x ∷ d .y ∷ f .x ∷ f .y ∷ []
 
--- the sizes of d and f, where all four coordinates are read
-S : (c : tie.After-struct-told4) → let s = c .before .before .before .before in
-    Bounded (200000 ∷ 200000 ∷ 200000 ∷ 200000 ∷ []) (s .args .d .x ∷ s .args .d .y ∷ s .args .f .x ∷ s .args .f .y ∷ [])
-S c = let p = c .before .before .before .before .pre in p .vector .x ∷ᵇ p .vector .y ∷ᵇ p .move .x ∷ᵇ p .move .y ∷ᵇ none
+  abbrev m : Vec2
+  m = mirrorLine d f
 
-mul-mx : tie.Need-mul-mx
-mul-mx c = fits (S c) (X ⊗ lit 2) tt
+  abbrev line : Vec2
+  line = record { x = reread (computed MX ρ); y = reread (computed MY ρ) }
+
+  S : Bounded (200000 ∷ 200000 ∷ 200000 ∷ 200000 ∷ []) ρ
+  S = let p = c .before .before .before .before .pre in p .vector .x ∷ᵇ p .vector .y ∷ᵇ p .move .x ∷ᵇ p .move .y ∷ᵇ none
+
+  exact-mx : reread (computed MX ρ) ≡ m .x
+  exact-mx = held S MX tt ∙ ring ρ MX (var 0 ⊗ lit 2 ⊕ var 2) tt
+
+  exact-my : reread (computed MY ρ) ≡ m .y
+  exact-my = held S MY tt ∙ ring ρ MY (var 1 ⊗ lit 2 ⊕ var 3) tt
+
+  exact-line : line ≡ m
+  exact-line = λ i. record { x = exact-mx i; y = exact-my i }
+
+  line-short : ShortVector line
+  line-short = record { x = held-within S MX tt tt; y = held-within S MY tt tt }
+
+  unit-short : ShortVector d
+  unit-short = let p = c .before .before .before .before .pre in record { x = within-more (lit≤ tt) (p .vector .x); y = within-more (lit≤ tt) (p .vector .y) }
+
+  line-unit : Dotted line d
+  line-unit = record { first = line-short; second = unit-short }
+
+  line-line : Dotted line line
+  line-line = record { first = line-short; second = line-short }
+
+-- 2(m·d)
+module _ (c : tie.After-dot) where
+  A : Bounded (dotMost ∷ []) (c .dot .result ∷ [])
+  A = subst (Within dotMost) (sym (c .dot .ensures)) (dot-within (line-unit (c .before))) ∷ᵇ none
+
+  exact-along : reread (computed ALONG (c .dot .result ∷ [])) ≡ pos 2 *ℤ dot (m (c .before)) (d (c .before))
+  exact-along =
+      held A ALONG tt ∙ ring1 (c .dot .result) (λ z. z ⊕ z ⊜ lit 2 ⊗ z) tt ∙ ap (λ z. pos 2 *ℤ z) (c .dot .ensures ∙ ap (λ v. dot v (d (c .before))) (exact-line (c .before)))
+
+-- |m|², and what a coordinate of the image asks
+module _ (c : tie.After-dot2) where
+  M : Bounded (dotMost ∷ []) (c .dot2 .result ∷ [])
+  M = subst (Within dotMost) (sym (c .dot2 .ensures)) (dot-within (line-line (c .before .before))) ∷ᵇ none
+
+  exact-mm : reread (c .dot2 .result) ≡ normSq (m (c .before .before))
+  exact-mm = held M (var 0) tt ∙ c .dot2 .ensures ∙ ap (λ v. normSq v) (exact-line (c .before .before))
+
+  asked : {x y : ℤ} → Within shortMost x → Within shortMost y → Imaged x (reread (computed ALONG (c .before .dot .result ∷ []))) y (reread (c .dot2 .result))
+  asked wx wy =
+      record {
+        first = record { first = wx; second = held-within (A (c .before)) ALONG tt tt };
+        second = record { first = wy; second = held-within M (var 0) tt tt };
+      }
+
+exact-wx : (c : tie.After-image-coordinate) → reread (c .image-coordinate .result) ≡ c .image-coordinate .result
+exact-wx c = search needs
+
+exact-wy : (c : tie.After-image-coordinate2) → reread (c .image-coordinate2 .result) ≡ c .image-coordinate2 .result
+exact-wy c = search needs
 
 add-mx : tie.Need-add-mx
-add-mx c = fits (S c) (MX) tt
+add-mx c = fits (S c) DX tt
 
-mul-my : tie.Need-mul-my
-mul-my c = fits (S c) (Y ⊗ lit 2) tt
+add-mx-2 : tie.Need-add-mx-2
+add-mx-2 c = fits (S c) MX tt
 
 add-my : tie.Need-add-my
-add-my c = fits (S c) (MY) tt
+add-my c = fits (S c) DY tt
 
-mul-along : tie.Need-mul-along
-mul-along c = fits (S c) (MX ⊗ X) tt
+add-my-2 : tie.Need-add-my-2
+add-my-2 c = fits (S c) MY tt
 
-mul-along-2 : tie.Need-mul-along-2
-mul-along-2 c = fits (S c) (MY ⊗ Y) tt
+dot-requires : tie.Need-dot-requires
+dot-requires c κs = line-unit c
 
 add-along : tie.Need-add-along
-add-along c = fits (S c) (MX ⊗ X ⊕ MY ⊗ Y) tt
+add-along c = fits (A c) ALONG tt
 
-mul-along-3 : tie.Need-mul-along-3
-mul-along-3 c = fits (S c) (ALONG) tt
+dot-requires-2 : tie.Need-dot-requires-2
+dot-requires-2 c κs = line-line (c .before)
 
-mul-mm : tie.Need-mul-mm
-mul-mm c = fits (S c) (MX ⊗ MX) tt
+image-coordinate-requires : tie.Need-image-coordinate-requires
+image-coordinate-requires c κs = let s = S (c .before .before) in asked c (held-within s MX tt tt) (held-within s (var 0) tt tt)
 
-mul-mm-2 : tie.Need-mul-mm-2
-mul-mm-2 c = fits (S c) (MY ⊗ MY) tt
-
-add-mm : tie.Need-add-mm
-add-mm c = fits (S c) (MM) tt
-
-mul-t13 : tie.Need-mul-t13
-mul-t13 c = fits (S c) (MX ⊗ ALONG) tt
-
-mul-t14 : tie.Need-mul-t14
-mul-t14 c = fits (S c) (X ⊗ MM) tt
-
-sub-t12 : tie.Need-sub-t12
-sub-t12 c = fits (S c) (WX) tt
-
-mul-t15 : tie.Need-mul-t15
-mul-t15 c = fits (S c) (MY ⊗ ALONG) tt
-
-mul-t16 : tie.Need-mul-t16
-mul-t16 c = fits (S c) (Y ⊗ MM) tt
-
-sub-t17 : tie.Need-sub-t17
-sub-t17 c = fits (S c) (WY) tt
+image-coordinate-requires-2 : tie.Need-image-coordinate-requires-2
+image-coordinate-requires-2 c κs = let s = S (c .before .before .before) in asked (c .before) (held-within s MY tt tt) (held-within s (var 1) tt tt)
 
 nearest-vector-requires : tie.Need-nearest-vector-requires
-nearest-vector-requires c κs = via (S c) Divisor MM tt (record { positive = c .before .before .before .before .pre .line })
+nearest-vector-requires c κs = let s = c .before .before in subst Divisor (sym (exact-mm s)) (record { positive = s .before .before .before .before .before .before .pre .line })
 
 returns : tie.Need-returns
 returns c =
-    let s = S (c .before) in
-    let ex = held s WX tt in
-    let ey = held s WY tt in
-    c .nearest-vector .ensures ∙ ap₂ nearestV (λ i. record { x = ex i; y = ey i }) (held s MM tt)
+    let t = c .before .before .before in
+    let s = t .before .before in
+    let wx = exact-wx (c .before .before) ∙ c .before .before .image-coordinate .ensures ∙ (λ i. exact-mx s i *ℤ exact-along (t .before) i -ℤ held (S s) (var 0) tt i *ℤ exact-mm t i) in
+    let wy = exact-wy (c .before) ∙ c .before .image-coordinate2 .ensures ∙ (λ i. exact-my s i *ℤ exact-along (t .before) i -ℤ held (S s) (var 1) tt i *ℤ exact-mm t i) in
+    c .nearest-vector .ensures ∙ ap₂ nearestV (λ i. record { x = wx i; y = wy i }) (exact-mm t)
 
 pub mirrored-vector-spec : {M : Type 1} → statement M
 mirrored-vector-spec =
     tie.close
     (tie.spec
-    mul-mx
     add-mx
-    mul-my
+    add-mx-2
     add-my
-    mul-along
-    mul-along-2
+    add-my-2
+    dot-requires
     add-along
-    mul-along-3
-    mul-mm
-    mul-mm-2
-    add-mm
-    mul-t13
-    mul-t14
-    sub-t12
-    mul-t15
-    mul-t16
-    sub-t17
+    dot-requires-2
+    image-coordinate-requires
+    image-coordinate-requires-2
     nearest-vector-requires
     returns)
