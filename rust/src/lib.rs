@@ -9,6 +9,7 @@ pub mod record;
 pub mod reference;
 pub mod runs;
 pub mod settings;
+pub mod turns;
 
 use std::fmt;
 

@@ -1,10 +1,12 @@
 //! Product against reference: seeded jobs of all kinds, what they leave in lent runs, short runs, and the two turns.
-//! `TURNING_JOBS` says how many jobs (20,000 where it is not set), `TURNING_SEED` which (1).
+//! `TURNING_JOBS` says how many jobs (20,000 where it is not set), `TURNING_SEED` which (1), `TURNING_TURNS` how many
+//! turns of a single unit are made (1,000,000), beside those refused.
 
 use std::collections::BTreeMap;
 use std::time::{Duration, Instant};
 use turning::jobs::{heading, heaviest, some_job, Chance};
 use turning::runs::Runs;
+use turning::turns::{corner_turn, some_turn, Turn};
 use turning::{hex_of_bytes, product, reference, Swept};
 
 /// A value that no answer holds, to see what is written.
@@ -194,29 +196,33 @@ fn path_turns_are_answered_as_by_the_reference() {
     assert_eq!(numbers.keys().copied().collect::<Vec<_>>(), [0, 6, 7, 8]);
 }
 
+/// A turn, one in three at a corner; one in eight is then harmed in its vector, its move or its wheelbase.
+fn any_turn(chance: &mut Chance) -> Turn {
+    let mut turn = if chance.one_in(3) { corner_turn(chance) } else { some_turn(chance) };
+    match chance.below(32) {
+        0 => turn.d.0 = hostile(chance),
+        1 => turn.d = (turn.d.0 + chance.between(-1, 1), turn.d.1 + chance.between(-1, 1)),
+        2 => turn.f = (hostile(chance), hostile(chance)),
+        3 => turn.wheelbase = chance.pick(&[0, 4_999, 5_000, 200_000, 200_001, u32::MAX, turn.wheelbase + 1]),
+        _ => (),
+    }
+    turn
+}
+
 #[test]
 fn unit_turns_are_answered_as_by_the_reference() {
+    let count = setting("TURNING_TURNS", 1_000_000);
     let mut chance = Chance::new(2227);
     let mut numbers: BTreeMap<u32, u64> = BTreeMap::new();
-    for round in 0..200_000 {
-        let mut wheelbase = chance.between(5_000, 200_000) as u32;
-        let (gx, gy) = heading(&mut chance);
-        let (hx, hy) = heading(&mut chance);
-        let (length, moved) = (i64::from(wheelbase), chance.between(0, i64::from(wheelbase) + 2));
-        let (mut dx, mut dy) = (gx * length / 1_000_000, gy * length / 1_000_000);
-        let (mut fx, mut fy) = (hx * moved / 1_000_000, hy * moved / 1_000_000);
-        match chance.below(8) {
-            0 => (dx, dy) = (hostile(&mut chance), dy),
-            1 => (dx, dy) = (dx + chance.between(-1, 1), dy + chance.between(-1, 1)),
-            2 => (fx, fy) = (hostile(&mut chance), hostile(&mut chance)),
-            3 => wheelbase = chance.pick(&[0, 4_999, 5_000, 200_000, 200_001, u32::MAX, wheelbase + 1]),
-            _ => (),
-        }
+    while numbers.get(&0).is_none_or(|made| *made < count) {
+        let turn = any_turn(&mut chance);
+        let ((dx, dy), (fx, fy), wheelbase) = (turn.d, turn.f, turn.wheelbase);
+        let extra = chance.below(3) as usize;
         let expected = reference::unit_turn(dx, dy, fx, fy, wheelbase);
-        check_turn(|answer| product::unit_turn_into(dx, dy, fx, fy, wheelbase, answer), expected, round % 3);
-        assert_eq!(product::unit_turn(dx, dy, fx, fy, wheelbase), expected);
+        check_turn(|answer| product::unit_turn_into(dx, dy, fx, fy, wheelbase, answer), expected, extra);
+        assert_eq!(product::unit_turn(dx, dy, fx, fy, wheelbase), expected, "{turn:?}");
         *numbers.entry(expected.err().unwrap_or(0)).or_default() += 1;
     }
     println!("unit turns by number: {numbers:?}");
-    assert_eq!(numbers.keys().copied().collect::<Vec<_>>(), [0, 22, 27]);
+    assert!(count < 1_000 || numbers.keys().eq(&[0, 22, 27]), "some number is missing: {numbers:?}");
 }

@@ -1,11 +1,12 @@
-//! The heaviest job through the product and the reference, one after the other in one run, then the product's
-//! list of 32 settings beside 32 of its sweeps. `TURNING_REPEATS` says how often (101 where it is not set); the
-//! list, which walks 32 times a round, takes a fifth of the rounds.
+//! The heaviest job through the product and the reference, one after the other in one run, then the turn of a single
+//! unit through both, then the product's list of 32 settings beside 32 of its sweeps. `TURNING_REPEATS` says how often
+//! (101 where it is not set); the list, which walks 32 times a round, takes a fifth of the rounds.
 
 use std::hint::black_box;
 use std::time::{Duration, Instant};
 use turning::runs::Runs;
 use turning::settings::{fitting, walks};
+use turning::turns::{some_turn, Turn};
 use turning::{jobs, product, reference, settings, Swept};
 
 /// 32 last wheelbases around the heaviest job's own 80,000: the lowest, the pitch and how many.
@@ -68,6 +69,39 @@ fn check_settings(job: &[u8]) {
     assert_eq!((listing, runs), (settings::best(&made), expected_runs), "both must list the same");
 }
 
+type UnitTurn = fn(i64, i64, i64, i64, u32) -> Result<[i64; 2], u32>;
+
+fn turn_one(unit_turn: UnitTurn, turn: &Turn) -> Result<[i64; 2], u32> {
+    unit_turn(turn.d.0, turn.d.1, turn.f.0, turn.f.1, turn.wheelbase)
+}
+
+fn turn_all(unit_turn: UnitTurn, turns: &[Turn]) {
+    for turn in turns {
+        let _ = black_box(turn_one(unit_turn, black_box(turn)));
+    }
+}
+
+/// 10,000 seeded turns that are made, not refused, and that both answer alike.
+fn made_turns() -> Vec<Turn> {
+    let mut chance = jobs::Chance::new(2);
+    let any = std::iter::repeat_with(|| some_turn(&mut chance));
+    let turns: Vec<Turn> = any.filter(|turn| turn_one(reference::unit_turn, turn).is_ok()).take(10_000).collect();
+    for turn in &turns {
+        assert_eq!(turn_one(product::unit_turn, turn), turn_one(reference::unit_turn, turn), "{turn:?}");
+    }
+    turns
+}
+
+fn compare_turns(rounds: usize) {
+    let turns = made_turns();
+    let (ours, theirs) =
+        medians(rounds, || turn_all(product::unit_turn, &turns), || turn_all(reference::unit_turn, &turns));
+    let each = |time: Duration| time.as_secs_f64() * 1e9 / turns.len() as f64;
+    println!("the turn of a single unit, over {} of them: medians of {rounds} rounds", turns.len());
+    println!("ours       {:9.1} ns", each(ours));
+    println!("reference  {:9.1} ns", each(theirs));
+}
+
 fn main() {
     let job = jobs::heaviest();
     let answer = reference::sweep(&job);
@@ -80,6 +114,7 @@ fn main() {
     println!("ours       {:9.3} ms", ours.as_secs_f64() * 1e3);
     println!("reference  {:9.3} ms", theirs.as_secs_f64() * 1e3);
     println!("ratio ours / reference {:.3}", ours.as_secs_f64() / theirs.as_secs_f64());
+    compare_turns(rounds);
     check_settings(&job);
     let rounds = (rounds / 5).max(1);
     let (listed, swept) = medians(rounds, || list_32_settings(&job), || sweep_32_times(&job));
