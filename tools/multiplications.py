@@ -2,11 +2,12 @@
 """Holds the mirror image of a unit to products of two numbers of 32 bits (02, N2): reads every function by which it is worked out
 before it is settled, those of unit's mirror.rt and whatever they call, and finds no multiplication but the one in `product`, no left
 shift but the one by a literal, and no loop. Comments, contracts and `ghost use` lines do not count. Its samples are tried first."""
+import re
 import sys
 from pathlib import Path
 
 import multiplications_samples as samples
-from rattle_source import Unreadable, calls_of, module_of
+from rattle_source import WHOLE_TYPES, Unreadable, calls_of, module_of
 
 ROOT = Path(__file__).resolve().parent.parent
 MIRROR = ("unit", "mirror")
@@ -16,6 +17,10 @@ PRODUCT_BODY = "( a as u64 ) * ( b as u64 )"
 # What ties the image to mirror.rt: the drawn rule settles what is worked out there, and nothing else.
 TURNED_BODY = "let e = mirror :: mirrored_vector ( d , f ) ; plane :: settle ( e , l )"
 LOOPS = {"while", "loop", "for"}
+WHOLE_NUMBER = re.compile(r"[0-9_]+([iu](8|16|32|64|128|size))?")
+# What may follow an operand that is a literal and no more.
+ENDS = {")", "}", ";", ","}
+SHIFT = re.compile(r"product \( \w+ , \w+ \) << 32 [)};,]")
 
 
 class Forbidden(Exception):
@@ -37,9 +42,16 @@ class Source:
     def module(self, place):
         """The module's contents, or nothing where there is no such file."""
         if place not in self.read:
-            text = self.texts("crates/{}/src/{}.rt".format(*place))
-            self.read[place] = module_of(text or "")
+            path = "crates/{}/src/{}.rt".format(*place)
+            try:
+                self.read[place] = module_of(self.texts(path) or "")
+            except Unreadable as reason:
+                raise Unreadable(f"{path}: {reason}") from reason
         return self.read[place]
+
+    def function(self, function):
+        place, name = function
+        return self.module(place).functions[name]
 
     def callee(self, caller, path):
         """The function that a call reaches: of the same module, of an imported name, or of another crate's root."""
@@ -49,7 +61,8 @@ class Source:
             return place, path[0]
         if len(path) == 1 and path[0] in module.imports:
             path = [name for name in module.imports[path[0]] if name != "::"]
-        if len(path) == 2 and path[1] in self.module((path[0], "lib")).functions:
+        local = path[0] in module.modules or path[0] in module.imports
+        if len(path) == 2 and not local and path[1] in self.module((path[0], "lib")).functions:
             return (path[0], "lib"), path[1]
         raise Forbidden(f"{told(caller)} calls {'::'.join(path)}, which is not read")
 
@@ -58,7 +71,7 @@ class Source:
         if function in above:
             raise Forbidden(f"{told(function)} calls itself")
         found = [function]
-        for path in calls_of(self.module(function[0]).functions[function[1]].body):
+        for path in calls_of(self.function(function).body):
             for other in self.reached(self.callee(function, path), (*above, function)):
                 if other not in found:
                     found.append(other)
@@ -68,37 +81,40 @@ class Source:
 def check_product(module):
     product = module.functions.get("product")
     if product is None or " ".join(product.signature) != PRODUCT_SIGNATURE or " ".join(product.body) != PRODUCT_BODY:
-        raise Forbidden("product is not the product of two numbers of 32 bits in 64")
+        raise Forbidden(f"product must read {PRODUCT_SIGNATURE} {{ {PRODUCT_BODY} }}")
 
 
 def check_turned(module):
     turned = module.functions.get("turned")
     if turned is None or "mirror" not in module.modules or " ".join(turned.body) != TURNED_BODY:
-        raise Forbidden("turned does not settle what mirror.rt works out")
+        raise Forbidden(f"turned must read {TURNED_BODY}")
 
 
 def check_tokens(where, tokens):
-    for token in tokens:
+    for before, token in zip(["", *tokens], tokens):
         if token in {"*", "*=", "<<="}:
             raise Forbidden(f"{where} has {token}")
         if token in LOOPS:
             raise Forbidden(f"{where} has a loop")
-        if token in {"f32", "f64"} or (token[0].isdigit() and "." in token):
-            raise Forbidden(f"{where} has a float")
+        if (token[0].isdigit() and not WHOLE_NUMBER.fullmatch(token)) or (token == "." and before[:1].isdigit()):
+            raise Forbidden(f"{where} has a number that is not whole")
+        if before == "as" and token not in WHOLE_TYPES:
+            raise Forbidden(f"{where} makes a number a {token}")
 
 
 def check_shifts(bodies):
-    """One left shift, by a literal that nothing is reckoned with; in mirror.rt one right shift and one remainder take the parts."""
-    shifts = [(body, at) for _, body in bodies for at, token in enumerate(body) if token == "<<"]
+    """One left shift, of a `product` by the literal width of the low part; in mirror.rt parts are taken by literals."""
+    shifts = [(function, body, at) for function, body in bodies for at, token in enumerate(body) if token == "<<"]
     if len(shifts) != 1:
-        raise Forbidden(f"{len(shifts)} left shifts")
-    body, at = shifts[0]
-    after = [*body[at + 1 :], "", ""]
-    if not after[0].isdecimal() or after[1] not in {")", ";", ""}:
-        raise Forbidden("a left shift by more than a literal")
-    own = [token for (place, _), body in bodies if place == MIRROR for token in body]
-    if own.count(">>") != 1 or own.count("%") != 1 or {"/", "/=", "%=", ">>="} & set(own):
-        raise Forbidden("mirror.rt divides or shifts beyond taking the parts")
+        raise Forbidden(f"left shifts: {', '.join(told(function) for function, _, _ in shifts) or 'none'}")
+    function, body, at = shifts[0]
+    around = " ".join([*body[max(at - 6, 0) : at], *body[at : at + 2], *(body[at + 2 : at + 3] or [";"])])
+    if function[0] != MIRROR or not SHIFT.fullmatch(around):
+        raise Forbidden(f"{told(function)} shifts left what is no product, or by more than a literal")
+    for function, body in bodies:
+        for token, after, end in zip(body, [*body[1:], ";"], [*body[2:], ";", ";"]):
+            if function[0] == MIRROR and token in {"/", "%", ">>", "/=", "%=", ">>="} and not (after.isdecimal() and end in ENDS):
+                raise Forbidden(f"{told(function)} has {token} by more than a literal")
 
 
 def check(texts):
@@ -110,7 +126,7 @@ def check(texts):
     found = []
     for name in mirror.functions:
         found += [function for function in source.reached((MIRROR, name)) if function not in found]
-    bodies = [(function, source.module(function[0]).functions[function[1]].body) for function in found if function != PRODUCT]
+    bodies = [(function, source.function(function).body) for function in found if function != PRODUCT]
     for function, body in bodies:
         check_tokens(told(function), body)
     for place in dict.fromkeys(place for place, _ in found):
@@ -124,7 +140,7 @@ def check(texts):
 
 def file_text(path):
     file = ROOT / path
-    return file.read_text() if file.is_file() else None
+    return file.read_bytes().decode() if file.is_file() else None
 
 
 def try_samples():
@@ -136,7 +152,7 @@ def try_samples():
             check(files.get)
             answer = ""
         except (Forbidden, Unreadable) as reason:
-            answer = str(reason)
+            answer = str(reason).split(".rt: ")[-1]
         if answer != expected:
             print(f"sample {name!r}: {answer or 'accepted'!r}, not {expected or 'accepted'!r}")
             wrong += 1
@@ -147,7 +163,10 @@ def main():
     wrong, count = try_samples()
     try:
         found = check(file_text)
-    except (Forbidden, Unreadable) as reason:
+    except Unreadable as reason:
+        print(f"the source of the mirror image cannot be searched for multiplications: {reason}")
+        return 1
+    except Forbidden as reason:
         print(f"the mirror image is not worked out by products of 32 bits alone: {reason}")
         return 1
     print(f"the mirror image: {len(found)} functions read, one multiplication, of 32 bits; {count} samples, {wrong} told wrong")

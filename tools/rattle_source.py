@@ -18,7 +18,8 @@ CLAUSES = {"requires", "ensures", "ghost"}
 KEYWORDS = {"if", "else", "return", "match", "let", "in", "as", "while", "loop", "for", "mut"}
 # Words that begin an item; inside a body it could give a name another meaning.
 ITEMS = {"fn", "use", "mod", "const", "static", "struct", "enum", "impl", "trait", "type", "extern", "unsafe", "ghost"}
-NUMBER_TYPES = {f"{sign}{bits}" for sign in "iu" for bits in ("8", "16", "32", "64", "128", "size")} | {"f32", "f64", "bool"}
+WHOLE_TYPES = {f"{sign}{bits}" for sign in "iu" for bits in ("8", "16", "32", "64", "128", "size")}
+OTHER_TYPES = {"f32", "f64", "bool"}
 
 
 class Unreadable(Exception):
@@ -36,8 +37,8 @@ class Module:
     functions: dict = field(default_factory=dict)
     imports: dict = field(default_factory=dict)
     constants: dict = field(default_factory=dict)
-    modules: set = field(default_factory=set)
-    types: set = field(default_factory=set)
+    modules: dict = field(default_factory=dict)
+    types: dict = field(default_factory=dict)
 
 
 def is_word(token):
@@ -46,6 +47,8 @@ def is_word(token):
 
 def tokens_of(text):
     """All tokens but spaces; comments stay, because a contract's text has none."""
+    if "\r" in text:
+        raise Unreadable("a carriage return is not followed")
     found = []
     for match in TOKEN.finditer(text):
         if match["unread"]:
@@ -100,6 +103,8 @@ class Reader:
         """The tokens up to one of these, which is not taken; brackets are taken whole."""
         found = []
         while self.peek() not in ends:
+            if self.peek() in OPENING.values():
+                raise Unreadable(f"{self.peek()} closes nothing")
             if self.peek() in OPENING:
                 opening = self.peek()
                 found += [opening, *self.bracketed(), OPENING[opening]]
@@ -107,22 +112,24 @@ class Reader:
                 found.append(self.take())
         return found
 
-    def skip_clause(self):
-        """A contract is no Rattle: `//` is no comment there, so that one would hide where it ends."""
-        self.take()
-        self.peek()
+    def skip(self, taking, where):
+        """Leaves out text that is no Rattle: `//` is no comment there, so that one would hide where it ends."""
         start = self.at
+        taking()
+        if any(token.startswith("//") for token in self.tokens[start : self.at]):
+            raise Unreadable(f"// inside {where}")
+
+    def skip_clause(self):
+        self.take()
         if self.peek() != "{":
             raise Unreadable("a contract stands in braces")
-        self.bracketed()
-        if any(token.startswith("//") for token in self.tokens[start : self.at]):
-            raise Unreadable("// inside a contract")
+        self.skip(self.bracketed, "a contract")
 
     def define(self, table, name, value):
         module = self.module
-        if any(name in names for names in (module.functions, module.imports, module.constants, module.types)):
+        if any(name in names for names in vars(module).values()):
             raise Unreadable(f"{name} is named twice")
-        if name in NUMBER_TYPES:
+        if name in WHOLE_TYPES | OTHER_TYPES:
             raise Unreadable(f"{name} is a type of numbers")
         table[name] = value
 
@@ -137,7 +144,10 @@ class Reader:
             self.skip_clause()
         if self.peek() != "{":
             raise Unreadable(f"{name} has no body")
-        self.define(self.module.functions, name, Function(signature, self.bracketed()))
+        body = self.bracketed()
+        if not all(token.isascii() for token in [name, *signature, *body]):
+            raise Unreadable(f"{name} has a sign beyond ASCII")
+        self.define(self.module.functions, name, Function(signature, body))
 
     def import_line(self):
         path = self.until({";", ""})
@@ -148,11 +158,9 @@ class Reader:
 
     def data_type(self):
         name = self.name()
-        if self.peek() != "{" or "{" in self.bracketed():
+        if self.peek() != "{" or {"{", "="} & set(self.bracketed()):
             raise Unreadable(f"{name} is more than a list of fields")
-        self.module.types.add(name)
-        if name in NUMBER_TYPES:
-            raise Unreadable(f"{name} is a type of numbers")
+        self.define(self.module.types, name, None)
 
     def item(self):
         if self.peek() == "pub":
@@ -166,10 +174,10 @@ class Reader:
             self.import_line()
         elif kind == "ghost":
             self.take("use")
-            self.until({";", ""})
+            self.skip(lambda: self.until({";", ""}), "a ghost use")
             self.take(";")
         elif kind == "mod":
-            self.module.modules.add(self.name())
+            self.define(self.module.modules, self.name(), None)
             self.take(";")
         elif kind in ("struct", "enum"):
             self.data_type()
@@ -203,7 +211,7 @@ def calls_of(body):
             raise Unreadable("::< is not followed")
         if token != "(" or before in KEYWORDS:
             continue
-        if before in {")", "]", "}"}:
+        if before in {")", "]", "}", "::"}:
             raise Unreadable(f"a call after {before} is not followed")
         if before[:1].isdigit():
             raise Unreadable("a call of a number is not followed")
