@@ -1,0 +1,4 @@
+pub mod Bits
+pub mod AllSet
+pub mod CountLaws
+pub mod Witnesses

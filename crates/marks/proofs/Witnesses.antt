@@ -1,0 +1,10 @@
+-- What the functions of this crate require can be met. Assumes nothing.
+use native.Mathlib.Omega.{arith}
+use Rattle.marks.specs.Requires.{HasPlace, HavePlaces}
+use Rattle.marks.specs.Marks.{markWidth}
+
+has-place : HasPlace 5
+has-place = record { place = omega arith }
+
+have-places : HavePlaces markWidth
+have-places = record { places = omega arith }
