@@ -1,6 +1,7 @@
 -- What the functions of this crate require can be met. Assumes nothing.
 use native.Mathlib.Omega.{arith}
-use Rattle.marks.specs.Requires.{HasPlace, HavePlaces}
+use Rattle.marks.specs.Requires.{HasPlace, HavePlaces, Counted}
+use Rattle.marks.specs.Count.{pointCapacity}
 use Rattle.marks.specs.Marks.{markWidth}
 
 has-place : HasPlace 5
@@ -8,3 +9,6 @@ has-place = record { place = omega arith }
 
 have-places : HavePlaces markWidth
 have-places = record { places = omega arith }
+
+counted : Counted pointCapacity
+counted = record { most = omega arith }

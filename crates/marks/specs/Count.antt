@@ -2,8 +2,11 @@
 use Prim.Native.Nat.{ℕ}
 use Rattle.job.specs.declared.Vehicle.{Vehicle}
 
+abbrev pub sixPoints : ℕ
+sixPoints = 6
+
 unfoldable pub pointCount : Vehicle → ℕ
-pointCount v = 6
+pointCount v = sixPoints
 
 abbrev pub pointCapacity : ℕ
 pointCapacity = 6

@@ -12,12 +12,14 @@ pub type Mark = u8;
 // As many points as the arrays that hold them have room for.
 pub const POINT_CAPACITY: usize = 6;
 
+pub const SIX_POINTS: usize = 6;
+
 // How many points the rig of a vehicle has.
 pub fn point_count(v: Vehicle) -> usize
     requires { ⌜ UnitsInUse (v .count) ⌝ }
     ensures { λ r. ⌜ r ≡ pointCount v ⌝ }
 {
-    6
+    SIX_POINTS
 }
 
 // The mark with a point's bit set: added where it is clear, so no other bit changes.

@@ -1,22 +1,22 @@
--- A station that no point crosses keeps its cell; two points' crossings commute; the top bits of a mark stay.
-use Prim.Native.Nat.{ℕ, zero, suc, _+_, _/_, _≤_, _<_}
+-- A station that no point crosses keeps its cell; two points' crossings commute; the bits above those of the points stay.
+use Prim.Native.Nat.{ℕ, zero, suc, _+_, _≤_, _<_}
 use mathlib.Core.Path.{_≡_, refl, _∙_, ap}
 use mathlib.Core.Bool.{Bool, true, false, _||_}
 use mathlib.Core.List.{List, [], _∷_}
 use native.Mathlib.Nat.{add-zero, le-of-suc-le-suc, not-suc-le-zero}
 use native.Mathlib.Omega.{arith}
-use native.Mathlib.Numerals.{add-one}
-use lib.ListN.{length, drop, getD, drop-of-length-le}
-use lib.Seq.{drop-cons}
+use lib.ListN.{length, take, drop, getD}
 use lib.IntN.{ℤ, pos}
 use lib.Signed.{leZ, ltZ}
 use Rattle.number.specs.Read.{pick}
+use Rattle.number.proofs.ManyLaws.{next-of, none-of as none-left}
 use Rattle.plane.specs.declared.Vec2.{Vec2}
+use Rattle.marks.specs.Marks.{hasBit, withBit, bitsFrom}
+use Rattle.marks.proofs.Bits.{own-bit, other-bit, bits-commute, above-bits}
 use Rattle.path.specs.declared.Station.{Station}
 use Rattle.walk.specs.Rig.{zeroVector}
 use Rattle.reaches.specs.declared.Cell.{Cell}
-use Rattle.reaches.specs.Crossing.{aheadOf, reachOf, crosses, smaller, greater, hasBit, withBit, crossedBy, crossedFrom, someCrosses}
-use Rattle.reaches.proofs.Bits.{own-bit, other-bit, bits-commute, top-stays}
+use Rattle.reaches.specs.Crossing.{aheadOf, reachOf, crosses, smaller, greater, crossedBy, crossedFrom, someCrosses}
 use Rattle.reaches.proofs.LeastGreatest.{smaller-any-order, greater-any-order}
 
 neither : (a b : Bool) → (a || b) ≡ false → (a ≡ false) × (b ≡ false)
@@ -78,40 +78,40 @@ crossings-commute p q d s old new old' new' c =
     tests-commute (crosses s old new) (crosses s old' new') (entered p (reachOf s old) (reachOf s new)) (entered q (reachOf s old') (reachOf s new')) c
     (entered-commute p q d (reachOf s old) (reachOf s new) (reachOf s old') (reachOf s new') c)
 
--- "no step touches the top two bits of a mark"
-crossed-top : (p : ℕ) (s : Station) (old new : Vec2) (c : Cell) → p < 6 → crossedBy p s old new c .mark / 64 ≡ c .mark / 64
+-- "no step touches the top two bits of a mark": nor any from number n on, where the points' numbers lie below n
+crossed-above : (n p : ℕ) (s : Station) (old new : Vec2) (c : Cell) → p < n → bitsFrom n (crossedBy p s old new c .mark) ≡ bitsFrom n (c .mark)
 unfolding crossedBy
-crossed-top p s old new c h = by (crosses s old new)
+crossed-above n p s old new c h = by (crosses s old new)
   where
-    by : (t : Bool) → pick t (entered p (reachOf s old) (reachOf s new) c) c .mark / 64 ≡ c .mark / 64
-    by true = top-stays p (c .mark) h
+    by : (t : Bool) → bitsFrom n (pick t (entered p (reachOf s old) (reachOf s new) c) c .mark) ≡ bitsFrom n (c .mark)
+    by true = above-bits p (c .mark) n h
     by false = refl
 
-pub step-top : (p : ℕ) (s : Station) (olds news : List Vec2) (c : Cell) → p + length olds ≤ 6 → crossedFrom p s olds news c .mark / 64 ≡ c .mark / 64
+pub step-above : (n p : ℕ) (s : Station) (olds news : List Vec2) (c : Cell) → p + length olds ≤ n → bitsFrom n (crossedFrom p s olds news c .mark) ≡ bitsFrom n (c .mark)
 unfolding crossedFrom
-step-top p s [] news c h = refl
-step-top p s (old ∷ olds) [] c h = refl
-step-top p s (old ∷ olds) (new ∷ news) c h = step-top (p + 1) s olds news (crossedBy p s old new c) (omega arith) ∙ crossed-top p s old new c (omega arith)
+step-above n p s [] news c h = refl
+step-above n p s (old ∷ olds) [] c h = refl
+step-above n p s (old ∷ olds) (new ∷ news) c h = step-above n (p + 1) s olds news (crossedBy p s old new c) (omega arith) ∙ crossed-above n p s old new c (omega arith)
 
--- the points from number p on: the next of them, and none left
-module _ (p : ℕ) (s : Station) (olds news : List Vec2) where
-  pub crossed-next : (c : Cell) → p < length olds → p < length news
-      → crossedFrom p s (drop p olds) (drop p news) c ≡ crossedFrom (p + 1) s (drop (p + 1) olds) (drop (p + 1) news) (crossedBy p s (getD olds p zeroVector) (getD news p zeroVector) c)
+-- of the first n points those from number p on: the next of them, and none left
+module _ (n p : ℕ) (s : Station) (olds news : List Vec2) where
+  pub crossed-next : (c : Cell) → n ≤ length olds → n ≤ length news → p < n
+      → crossedFrom p s (drop p (take n olds)) (drop p (take n news)) c ≡ crossedFrom (p + 1) s (drop (p + 1) (take n olds)) (drop (p + 1) (take n news)) (crossedBy p s (getD olds p zeroVector) (getD news p zeroVector) c)
   unfolding crossedFrom
-  crossed-next c h k = rw (drop-cons olds p zeroVector h, drop-cons news p zeroVector k, ← add-one p)
+  crossed-next c h k l = rw (next-of olds n p zeroVector h l, next-of news n p zeroVector k l)
 
-  pub crossed-end : (c : Cell) → length olds ≤ p → crossedFrom p s (drop p olds) (drop p news) c ≡ c
+  pub crossed-end : (c : Cell) → n ≤ p → crossedFrom p s (drop p (take n olds)) (drop p (take n news)) c ≡ c
   unfolding crossedFrom
-  crossed-end c h = rw (drop-of-length-le olds {i = p} h)
+  crossed-end c h = rw (none-left olds n p h)
 
-  pub some-next : p < length olds → p < length news
-      → someCrosses s (drop p olds) (drop p news) ≡ (crosses s (getD olds p zeroVector) (getD news p zeroVector) || someCrosses s (drop (p + 1) olds) (drop (p + 1) news))
+  pub some-next : n ≤ length olds → n ≤ length news → p < n
+      → someCrosses s (drop p (take n olds)) (drop p (take n news)) ≡ (crosses s (getD olds p zeroVector) (getD news p zeroVector) || someCrosses s (drop (p + 1) (take n olds)) (drop (p + 1) (take n news)))
   unfolding someCrosses
-  some-next h k = rw (drop-cons olds p zeroVector h, drop-cons news p zeroVector k, add-one p)
+  some-next h k l = rw (next-of olds n p zeroVector h l, next-of news n p zeroVector k l)
 
-  pub some-end : length olds ≤ p → someCrosses s (drop p olds) (drop p news) ≡ false
+  pub some-end : n ≤ p → someCrosses s (drop p (take n olds)) (drop p (take n news)) ≡ false
   unfolding someCrosses
-  some-end h = rw (drop-of-length-le olds {i = p} h)
+  some-end h = rw (none-left olds n p h)
 
 -- which bits a step sets: those of the points that cross
 module _ (p : ℕ) (s : Station) (old new : Vec2) (c : Cell) where

@@ -9,7 +9,7 @@ use native.Mathlib.Numerals.{add-one}
 use native.Mathlib.Omega.{arith}
 use borrow.Author.Tests.{le-ltb}
 use lib.Dec.{lit≤}
-use lib.ListN.{length, getD}
+use lib.ListN.{take, getD}
 use lib.IntN.{ℤ, pos, negsuc, natAbs, negℤ, _+ℤ_, _-ℤ_, _*ℤ_}
 use lib.Signed.{leZ, ltZ, _≤ℤ_}
 use Rattle.exact.specs.Size.{Within}
@@ -138,20 +138,15 @@ module _ (s : Station) (k : SoundStation s) (a : Vec2) (r : ℤ) (far : farOff s
       (either t u far)
 
 -- nor by any of several
-none-of : (s : Station) (olds news : List Vec2) → ((p : ℕ) → p < length olds → p < length news → crosses s (getD olds p zeroVector) (getD news p zeroVector) ≡ false) → someCrosses s olds news ≡ false
+none-of : (s : Station) (n : ℕ) (olds news : List Vec2) → ((p : ℕ) → p < n → crosses s (getD olds p zeroVector) (getD news p zeroVector) ≡ false) → someCrosses s (take n olds) (take n news) ≡ false
 unfolding someCrosses
-none-of s [] news h = refl
-none-of s (old ∷ olds) [] h = refl
-none-of s (old ∷ olds) (new ∷ news) h = rw (h 0 (omega arith) (omega arith)) (none-of s olds news (λ p l m. h (suc p) (omega arith) (omega arith)))
+none-of s zero olds news h = refl
+none-of s (suc n) [] news h = refl
+none-of s (suc n) (old ∷ olds) [] h = refl
+none-of s (suc n) (old ∷ olds) (new ∷ news) h = rw (h 0 (omega arith)) (none-of s n olds news (λ p l. h (suc p) (omega arith)))
 
-pub far-none : (s : Station) → SoundStation s → (olds news : List Vec2) (r : ℤ) → length olds ≡ 6 → Spread olds news r → farOff s (getD olds 0 zeroVector) r ≡ true → someCrosses s olds news ≡ false
-far-none s k olds news r n w far = none-of s olds news (λ p l m. far-move s k (getD olds 0 zeroVector) r far (getD olds p zeroVector) (getD news p zeroVector) (w .old p (omega (arith, n, l))) (w .new p (omega (arith, n, l))))
-
--- the spread of the first n points, one after the other
-pub record Upto (n : ℕ) (olds news : List Vec2) (r : ℤ) : Type 0 where
-  pub old : (p : ℕ) → p < n → apart (getD olds 0 zeroVector) (getD olds p zeroVector) ≤ℤ r
-  pub new : (p : ℕ) → p < n → apart (getD olds 0 zeroVector) (getD news p zeroVector) ≤ℤ r
-  pub size : Within 640000000 r
+pub far-none : (s : Station) → SoundStation s → (from : Vec2) (n : ℕ) (olds news : List Vec2) (r : ℤ) → Spread from n olds news r → farOff s from r ≡ true → someCrosses s (take n olds) (take n news) ≡ false
+far-none s k from n olds news r w far = none-of s n olds news (λ p l. far-move s k from r far (getD olds p zeroVector) (getD news p zeroVector) (w .old p l) (w .new p l))
 
 pub apart-sized : (a b : Vec2) → SizedPoint a → SizedPoint b → Within 640000000 (apart a b)
 apart-sized a b p q =
@@ -162,8 +157,9 @@ apart-sized a b p q =
 pub greater-sized : {b : ℕ} (x y : ℤ) → Within b x → Within b y → Within b (greater x y)
 greater-sized x y p q = within (≤ℤ-trans (≥-size p) (sorted x y .most-first)) (greater-most x y _ (≤-size p) (≤-size q))
 
-module _ (olds news : List Vec2) where
-  pub upto-none : Upto 0 olds news (pos 0)
+module _ (from : Vec2) (olds news : List Vec2) where
+  -- the spread of the first n points, one after the other
+  pub upto-none : Spread from 0 olds news (pos 0)
   upto-none = record { old = λ p h. absurd (omega arith); new = λ p h. absurd (omega arith); size = record { size = omega arith } }
 
   -- a bound on the first n, and on the next, is one on n + 1
@@ -171,16 +167,13 @@ module _ (olds news : List Vec2) where
   under P n r r' h k l p m =
       ⊎-elim (λ (e : p ≡ n). subst (λ (q : ℕ). P q ≤ℤ r') (sym e) l) (λ (j : p < n). ≤ℤ-trans (h p j) k) (eq-or-lt-of-le (le-of-suc-le-suc (rw add-one at m)))
 
-  pub upto-next : (n : ℕ) (r a b : ℤ) → Upto n olds news r → a ≡ apart (getD olds 0 zeroVector) (getD olds n zeroVector) → b ≡ apart (getD olds 0 zeroVector) (getD news n zeroVector)
-      → Within 640000000 a → Within 640000000 b → Upto (n + 1) olds news (greater r (greater a b))
+  pub upto-next : (n : ℕ) (r a b : ℤ) → Spread from n olds news r → a ≡ apart from (getD olds n zeroVector) → b ≡ apart from (getD news n zeroVector)
+      → Within 640000000 a → Within 640000000 b → Spread from (n + 1) olds news (greater r (greater a b))
   upto-next n r a b u p q x y =
       let o = sorted r (greater a b) in
       let i = sorted a b in
       record {
-        old = under (λ k. apart (getD olds 0 zeroVector) (getD olds k zeroVector)) n r _ (u .old) (o .most-first) (subst (λ (z : ℤ). z ≤ℤ greater r (greater a b)) p (≤ℤ-trans (i .most-first) (o .most-second)));
-        new = under (λ k. apart (getD olds 0 zeroVector) (getD news k zeroVector)) n r _ (u .new) (o .most-first) (subst (λ (z : ℤ). z ≤ℤ greater r (greater a b)) q (≤ℤ-trans (i .most-second) (o .most-second)));
+        old = under (λ k. apart from (getD olds k zeroVector)) n r _ (u .old) (o .most-first) (subst (λ (z : ℤ). z ≤ℤ greater r (greater a b)) p (≤ℤ-trans (i .most-first) (o .most-second)));
+        new = under (λ k. apart from (getD news k zeroVector)) n r _ (u .new) (o .most-first) (subst (λ (z : ℤ). z ≤ℤ greater r (greater a b)) q (≤ℤ-trans (i .most-second) (o .most-second)));
         size = greater-sized r (greater a b) (u .size) (greater-sized a b x y);
       }
-
-  pub upto-all : (r : ℤ) → Upto 6 olds news r → Spread olds news r
-  upto-all r u = record { old = u .old; new = u .new; size = u .size }

@@ -1,4 +1,3 @@
-pub mod Bits
 pub mod CellLaws
 pub mod LeastGreatest
 pub mod CrossingLaws

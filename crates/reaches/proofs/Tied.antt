@@ -4,9 +4,10 @@ use denote.Ref.{now}
 use denote.Triple.Clauses.{AtExit}
 use contract.Lifetimes.{Lfts}
 use borrow.Fn.Kinds.{Dens, endedOf}
+use Rattle.marks.specs.Count.{sixPoints}
 use Rattle.reaches.specs.declared.WidestAnswer.{WidestAnswer}
 use Rattle.reaches.specs.Cells.{reachRuns}
-use Rattle.reaches.specs.Widest.{sixPoints, widestAnswer}
+use Rattle.reaches.specs.Widest.{widestAnswer}
 use Rattle.reaches.proofs.widest.Kinds as kinds
 use Rattle.reaches.proofs.widest.Reads as reads
 

@@ -22,12 +22,12 @@ use Rattle.reaches.specs.Widest.{complete, width, placeOf, beats, wider,
 use Rattle.reaches.specs.Inner.{Room}
 
 -- the loop over stations
-module _ (full : ℕ) (r : Reaches) where
-  pub none-considered : widestAmong full 0 r ≡ Nothing
+module _ (count : ℕ) (r : Reaches) where
+  pub none-considered : widestAmong count 0 r ≡ Nothing
   unfolding widestAmong
   none-considered = refl
 
-  pub one-considered : (i : ℕ) (b : Best) → b ≡ widestAmong full i r → considered full i (cellAt i r) b ≡ widestAmong full (i + 1) r
+  pub one-considered : (i : ℕ) (b : Best) → b ≡ widestAmong count i r → considered count i (cellAt i r) b ≡ widestAmong count (i + 1) r
   unfolding widestAmong
   one-considered i b e = rw (add-one i, e)
 
@@ -48,12 +48,12 @@ lent-room asked r e =
     record { left = leb-true asked _ (q .0); right = leb-true asked _ (s .0); marks = leb-true asked _ (s .1) }
 
 -- the answers
-module _ (full asked : ℕ) (r : Reaches) where
-  pub not-lent : widestLent asked r ≡ false → widestAnswer full asked r ≡ W.Refused 21
+module _ (count asked : ℕ) (r : Reaches) where
+  pub not-lent : widestLent asked r ≡ false → widestAnswer count asked r ≡ W.Refused 21
   unfolding widestAnswer
   not-lent e = rw e
 
-  pub answered : (b : Best) → widestLent asked r ≡ true → b ≡ widestAmong full asked r → widestAnswer full asked r ≡ answerOf b
+  pub answered : (b : Best) → widestLent asked r ≡ true → b ≡ widestAmong count asked r → widestAnswer count asked r ≡ answerOf b
   unfolding widestAnswer
   answered b e f = rw (e, ← f)
 
@@ -85,93 +85,93 @@ never-both p q = absurd (let z : _≡_ {A = ℕ} 0 1 = cc in omega arith)
 
 -- the best of the first n stations is right
 abbrev pub Right : ℕ → ℕ → Reaches → Best → Type 0
-Right full n r Nothing = NoneComplete full n r
-Right full n r (Found p) = IsWidest full n r p
+Right count n r Nothing = NoneComplete count n r
+Right count n r (Found p) = IsWidest count n r p
 
-module _ (full n : ℕ) (r : Reaches) where
+module _ (count n : ℕ) (r : Reaches) where
   abbrev here : Place
   here = placeOf n (cellAt n r)
 
   -- station n is not complete
-  passed-over : complete full (cellAt n r) ≡ false → (b : Best) → Right full n r b → Right full (suc n) r b
-  passed-over e Nothing h = below-next (λ (i : ℕ). complete full (cellAt i r) ≡ false) n h e
+  passed-over : complete count (cellAt n r) ≡ false → (b : Best) → Right count n r b → Right count (suc n) r b
+  passed-over e Nothing h = below-next (λ (i : ℕ). complete count (cellAt i r) ≡ false) n h e
   passed-over e (Found p) h =
       record {
         inside = omega (arith, h .inside);
         whole = h .whole;
         read = h .read;
-        greatest = below-next (λ (i : ℕ). complete full (cellAt i r) ≡ true → width (cellAt i r) ≤ℤ p .width) n (h .greatest) (λ t. never-both t e);
+        greatest = below-next (λ (i : ℕ). complete count (cellAt i r) ≡ true → width (cellAt i r) ≤ℤ p .width) n (h .greatest) (λ t. never-both t e);
         earliest = h .earliest;
       }
 
   -- it is, and beats all before it
-  beaten : complete full (cellAt n r) ≡ true → ((i : ℕ) → i < n → complete full (cellAt i r) ≡ true → width (cellAt i r) <ℤ width (cellAt n r)) → IsWidest full (suc n) r here
+  beaten : complete count (cellAt n r) ≡ true → ((i : ℕ) → i < n → complete count (cellAt i r) ≡ true → width (cellAt i r) <ℤ width (cellAt n r)) → IsWidest count (suc n) r here
   beaten e h =
       record {
         inside = omega arith;
         whole = e;
         read = refl;
         greatest =
-            below-next (λ (i : ℕ). complete full (cellAt i r) ≡ true → width (cellAt i r) ≤ℤ width (cellAt n r)) n (λ i l t. <-≤ (h i l t)) (λ t. ≤ℤ-refl (width (cellAt n r)));
+            below-next (λ (i : ℕ). complete count (cellAt i r) ≡ true → width (cellAt i r) ≤ℤ width (cellAt n r)) n (λ i l t. <-≤ (h i l t)) (λ t. ≤ℤ-refl (width (cellAt n r)));
         earliest = h;
       }
 
   -- it is, and is no wider than the best
-  kept : (q : Place) → width (cellAt n r) ≤ℤ q .width → IsWidest full n r q → IsWidest full (suc n) r q
+  kept : (q : Place) → width (cellAt n r) ≤ℤ q .width → IsWidest count n r q → IsWidest count (suc n) r q
   kept q e h =
       record {
         inside = omega (arith, h .inside);
         whole = h .whole;
         read = h .read;
-        greatest = below-next (λ (i : ℕ). complete full (cellAt i r) ≡ true → width (cellAt i r) ≤ℤ q .width) n (h .greatest) (λ t. e);
+        greatest = below-next (λ (i : ℕ). complete count (cellAt i r) ≡ true → width (cellAt i r) ≤ℤ q .width) n (h .greatest) (λ t. e);
         earliest = h .earliest;
       }
 
-  compared : complete full (cellAt n r) ≡ true → (b : Best) → Right full n r b → Right full (suc n) r (wider here b)
+  compared : complete count (cellAt n r) ≡ true → (b : Best) → Right count n r b → Right count (suc n) r (wider here b)
   compared e Nothing h = beaten e (λ i l t. never-both t (h i l))
   compared e (Found q) h = by (beats here q) refl
     where
-      by : (t : Bool) → beats here q ≡ t → Right full (suc n) r (pick t (Found here) (Found q))
+      by : (t : Bool) → beats here q ≡ t → Right count (suc n) r (pick t (Found here) (Found q))
       by true f = beaten e (λ i l t. ≤-<-trans (h .greatest i l t) (beats-means here q .0 f))
       by false f = kept q (beats-means here q .1 f) h
 
-  next-right : (b : Best) → Right full n r b → Right full (suc n) r (considered full n (cellAt n r) b)
-  next-right b h = by (complete full (cellAt n r)) refl
+  next-right : (b : Best) → Right count n r b → Right count (suc n) r (considered count n (cellAt n r) b)
+  next-right b h = by (complete count (cellAt n r)) refl
     where
-      by : (t : Bool) → complete full (cellAt n r) ≡ t → Right full (suc n) r (pick t (wider here b) b)
+      by : (t : Bool) → complete count (cellAt n r) ≡ t → Right count (suc n) r (pick t (wider here b) b)
       by true e = compared e b h
       by false e = passed-over e b h
 
-pub among-right : (full n : ℕ) (r : Reaches) → Right full n r (widestAmong full n r)
+pub among-right : (count n : ℕ) (r : Reaches) → Right count n r (widestAmong count n r)
 unfolding widestAmong
-among-right full zero r = λ i h. absurd (not-suc-le-zero h)
-among-right full (suc n) r = next-right full n r (widestAmong full n r) (among-right full n r)
+among-right count zero r = λ i h. absurd (not-suc-le-zero h)
+among-right count (suc n) r = next-right count n r (widestAmong count n r) (among-right count n r)
 
 -- the claim
-module _ (full asked : ℕ) (r : Reaches) where
-  found : (p : Place) → widestAnswer full asked r ≡ W.At p → IsWidest full asked r p
+module _ (count asked : ℕ) (r : Reaches) where
+  found : (p : Place) → widestAnswer count asked r ≡ W.At p → IsWidest count asked r p
   unfolding widestAnswer
-  found p = by (widestLent asked r) (widestAmong full asked r) (among-right full asked r)
+  found p = by (widestLent asked r) (widestAmong count asked r) (among-right count asked r)
     where
-      by : (t : Bool) (b : Best) → Right full asked r b → pick t (answerOf b) (W.Refused 21) ≡ W.At p → IsWidest full asked r p
+      by : (t : Bool) (b : Best) → Right count asked r b → pick t (answerOf b) (W.Refused 21) ≡ W.At p → IsWidest count asked r p
       by true Nothing h e = absurd (let z : _≡_ {A = ℕ} 0 1 = cc in omega arith)
-      by true (Found q) h e = let f : q ≡ p = cc in subst (IsWidest full asked r) f h
+      by true (Found q) h e = let f : q ≡ p = cc in subst (IsWidest count asked r) f h
       by false b h e = absurd (let z : _≡_ {A = ℕ} 0 1 = cc in omega arith)
 
-  nowhere : widestAnswer full asked r ≡ W.Refused 24 → NoneComplete full asked r
+  nowhere : widestAnswer count asked r ≡ W.Refused 24 → NoneComplete count asked r
   unfolding widestAnswer
-  nowhere = by (widestLent asked r) (widestAmong full asked r) (among-right full asked r)
+  nowhere = by (widestLent asked r) (widestAmong count asked r) (among-right count asked r)
     where
-      by : (t : Bool) (b : Best) → Right full asked r b → pick t (answerOf b) (W.Refused 21) ≡ W.Refused 24 → NoneComplete full asked r
+      by : (t : Bool) (b : Best) → Right count asked r b → pick t (answerOf b) (W.Refused 21) ≡ W.Refused 24 → NoneComplete count asked r
       by true Nothing h e = h
       by true (Found q) h e = absurd (let z : _≡_ {A = ℕ} 0 1 = cc in omega arith)
       by false b h e = absurd (let f : _≡_ {A = ℕ} 21 24 = cc in omega arith)
 
-  only : widestLent asked r ≡ true → NoneComplete full asked r → widestAnswer full asked r ≡ W.Refused 24
+  only : widestLent asked r ≡ true → NoneComplete count asked r → widestAnswer count asked r ≡ W.Refused 24
   unfolding widestAnswer
-  only e n = rw e (by (widestAmong full asked r) (among-right full asked r))
+  only e n = rw e (by (widestAmong count asked r) (among-right count asked r))
     where
-      by : (b : Best) → Right full asked r b → answerOf b ≡ W.Refused 24
+      by : (b : Best) → Right count asked r b → answerOf b ≡ W.Refused 24
       by Nothing h = refl
       by (Found p) h = never-both (h .whole) (n (p .station) (h .inside))
 

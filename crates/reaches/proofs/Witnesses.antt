@@ -8,13 +8,16 @@ use lib.ListN.{getD, replicate, getD-replicate}
 use lib.IntN.{ℤ, pos, negsuc}
 use lib.Signed.{_≤ℤ_, leZ-yes}
 use Rattle.plane.specs.declared.Vec2.{Vec2}
+use Rattle.marks.specs.Marks.{markWidth}
+use Rattle.marks.specs.Count.{pointCapacity}
+use Rattle.marks.specs.Requires.{Counted}
 use Rattle.path.specs.declared.Station.{Station}
 use Rattle.path.specs.Laying.{PathRuns, SoundStation}
 use Rattle.walk.specs.Drawn.{stationAt}
 use Rattle.walk.specs.Rig.{zeroVector}
 use Rattle.reaches.specs.Cells.{Reaches}
-use Rattle.reaches.specs.Inner.{Room, SizedPoint, Measurable, Movable, PointNumber, Numbered, SixMoves, Crossable}
-use Rattle.reaches.specs.Far.{apart, Spread, Sized, BothSized, SixSized, Measured, AtStation}
+use Rattle.reaches.specs.Inner.{Room, SizedPoint, Measurable, Movable, Numbered, AllMoves, Crossable, Searchable}
+use Rattle.reaches.specs.Far.{apart, Spread, Sized, BothSized, AllSized, Measured, AtStation}
 
 abbrev vec : ℤ → ℤ → Vec2
 vec a b = record { x = a; y = b }
@@ -26,8 +29,9 @@ corner = record { position = vec (pos 150000000) (negsuc 149999999); heading = v
 abbrev opposite : Vec2
 opposite = vec (negsuc 159999999) (pos 160000000)
 
+-- as many points as there is room for
 abbrev points : List Vec2
-points = replicate 6 opposite
+points = replicate pointCapacity opposite
 
 -- a path of that one station, and runs of one entry
 abbrev path : PathRuns
@@ -51,25 +55,25 @@ measurable-met = record { station = station-met; point = point-met }
 movable-met : Movable corner opposite opposite
 movable-met = record { station = station-met; from = point-met; to = point-met }
 
-number-met : PointNumber 5
-number-met = record { small = lit< tt }
-
 numbered-met : Numbered 5 corner opposite opposite
-numbered-met = record { number = number-met; move = movable-met }
+numbered-met = record { number = record { place = lit< tt }; move = movable-met }
 
--- all six points alike
-all-met : (p : ℕ) → p < 6 → SizedPoint (getD points p zeroVector)
-all-met p h = subst SizedPoint (sym (getD-replicate 6 p opposite zeroVector h)) point-met
+counted-met : Counted pointCapacity
+counted-met = record { most = lit≤ tt }
 
-six-moves-met : SixMoves corner points points
-six-moves-met = record { move = λ p h. record { station = station-met; from = all-met p h; to = all-met p h } }
+-- all points alike
+all-met : (p : ℕ) → p < pointCapacity → SizedPoint (getD points p zeroVector)
+all-met p h = subst SizedPoint (sym (getD-replicate pointCapacity p opposite zeroVector h)) point-met
+
+moves-met : AllMoves corner pointCapacity points points
+moves-met = record { room = counted-met; move = λ p h. record { station = station-met; from = all-met p h; to = all-met p h } }
 
 -- they do not spread at all
-spread-met : Spread points points (pos 0)
+spread-met : Spread opposite pointCapacity points points (pos 0)
 spread-met = record { old = together; new = together; size = record { size = lit≤ tt } }
   where
-    together : (p : ℕ) → p < 6 → apart (getD points 0 zeroVector) (getD points p zeroVector) ≤ℤ pos 0
-    together p h = subst (λ (a : Vec2). apart opposite a ≤ℤ pos 0) (sym (getD-replicate 6 p opposite zeroVector h)) (leZ-yes tt)
+    together : (p : ℕ) → p < pointCapacity → apart opposite (getD points p zeroVector) ≤ℤ pos 0
+    together p h = subst (λ (a : Vec2). apart opposite a ≤ℤ pos 0) (sym (getD-replicate pointCapacity p opposite zeroVector h)) (leZ-yes tt)
 
 sized-met : Sized (pos 320000000)
 sized-met = record { size = record { size = lit≤ tt } }
@@ -77,17 +81,20 @@ sized-met = record { size = record { size = lit≤ tt } }
 both-met : BothSized opposite opposite
 both-met = record { first = point-met; second = point-met }
 
-six-met : SixSized points points
-six-met = record { old = all-met; new = all-met }
+sized-points-met : AllSized opposite pointCapacity points points
+sized-points-met = record { place = point-met; room = counted-met; old = all-met; new = all-met }
 
 measured-met : Measured corner opposite (pos 640000000)
 measured-met = record { point = measurable-met; near = record { size = lit≤ tt } }
 
-at-station-met : AtStation 0 corner points points (pos 0) runs
-at-station-met = record { moves = six-moves-met; spread = spread-met; left = lit< tt; right = lit< tt; marks = lit< tt }
+at-station-met : AtStation 0 corner pointCapacity points points opposite (pos 0) runs
+at-station-met = record { moves = moves-met; place = measurable-met; spread = spread-met; left = lit< tt; right = lit< tt; marks = lit< tt }
 
 stations-met : (i : ℕ) → i < 1 → SoundStation (stationAt path i)
 stations-met i h = let e : i ≡ 0 = omega arith in subst (λ (j : ℕ). SoundStation (stationAt path j)) (sym e) station-met
 
-crossable-met : Crossable 1 path points points runs
-crossable-met = record { lent = refl; room = room-met; stations = stations-met; old = all-met; new = all-met }
+crossable-met : Crossable 1 path pointCapacity points points runs
+crossable-met = record { lent = refl; room = room-met; stations = stations-met; some = lit< tt; points = counted-met; old = all-met; new = all-met }
+
+searchable-met : Searchable markWidth 1 runs
+searchable-met = record { bits = record { places = lit≤ tt }; room = room-met }

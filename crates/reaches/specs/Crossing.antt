@@ -1,8 +1,7 @@
 -- Crossing a station (01, "Stations and the widest place").
-use Prim.Native.Nat.{ℕ, _+_, _/_, _%_, _^_}
+use Prim.Native.Nat.{ℕ, _+_}
 use mathlib.Core.Bool.{Bool, false, _&&_, _||_}
 use mathlib.Core.List.{List, [], _∷_}
-use lib.Dec.{eqb}
 use lib.IntN.{ℤ, pos}
 use lib.Signed.{leZ, ltZ}
 use Rattle.exact.specs.Nearest.{nearestZ}
@@ -10,6 +9,7 @@ use Rattle.number.specs.Read.{pick}
 use Rattle.plane.specs.declared.Vec2.{Vec2}
 use Rattle.plane.specs.Vector.{dot, minus, rightNormal}
 use Rattle.plane.specs.Length.{headingLength}
+use Rattle.marks.specs.Marks.{withBit}
 use Rattle.path.specs.declared.Station.{Station}
 use Rattle.path.specs.Laying.{PathRuns}
 use Rattle.walk.specs.Drawn.{stationAt}
@@ -33,13 +33,6 @@ smaller a b = pick (leZ a b) a b
 
 abbrev pub greater : ℤ → ℤ → ℤ
 greater a b = pick (leZ a b) b a
-
--- the mark, the paper's word for the bits of the points that have crossed a station: bit p
-abbrev pub hasBit : ℕ → ℕ → Bool
-hasBit p mark = eqb (mark / 2 ^ p % 2) 1
-
-abbrev pub withBit : ℕ → ℕ → ℕ
-withBit p mark = pick (hasBit p mark) mark (mark + 2 ^ p)
 
 -- "Then the reaches at both ends of that move enter the station's left (smallest) and right (greatest), and the point's bit is set in its mark"
 unfoldable pub crossedBy : ℕ → Station → Vec2 → Vec2 → Cell → Cell

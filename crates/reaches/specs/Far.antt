@@ -7,12 +7,13 @@ use lib.IntN.{ℤ, pos, natAbs, _+ℤ_, _-ℤ_, _*ℤ_}
 use lib.Signed.{leZ, _≤ℤ_}
 use Rattle.exact.specs.Size.{Within}
 use Rattle.plane.specs.declared.Vec2.{Vec2}
+use Rattle.marks.specs.Requires.{Counted}
 use Rattle.plane.specs.Length.{headingLength}
 use Rattle.path.specs.declared.Station.{Station}
 use Rattle.walk.specs.Rig.{zeroVector}
 use Rattle.reaches.specs.Crossing.{aheadOf}
 use Rattle.reaches.specs.Cells.{Reaches}
-use Rattle.reaches.specs.Inner.{SizedPoint, Measurable, SixMoves}
+use Rattle.reaches.specs.Inner.{SizedPoint, Measurable, AllMoves}
 
 -- how far apart two points lie, east and north together
 abbrev pub apart : Vec2 → Vec2 → ℤ
@@ -22,10 +23,10 @@ apart a b = pos (natAbs (b .x -ℤ a .x)) +ℤ pos (natAbs (b .y -ℤ a .y))
 unfoldable pub farOff : Station → Vec2 → ℤ → Bool
 farOff s a near = leZ (near *ℤ headingLength) (aheadOf s a) || not (leZ (pos 0 -ℤ near *ℤ headingLength) (aheadOf s a))
 
--- no point, before the step or after it, lies farther from the first than r
-pub record Spread (olds news : List Vec2) (r : ℤ) : Type 0 where
-  pub old : (p : ℕ) → p < 6 → apart (getD olds 0 zeroVector) (getD olds p zeroVector) ≤ℤ r
-  pub new : (p : ℕ) → p < 6 → apart (getD olds 0 zeroVector) (getD news p zeroVector) ≤ℤ r
+-- no point, before the step or after it, lies farther from a place than r
+pub record Spread (from : Vec2) (count : ℕ) (olds news : List Vec2) (r : ℤ) : Type 0 where
+  pub old : (p : ℕ) → p < count → apart from (getD olds p zeroVector) ≤ℤ r
+  pub new : (p : ℕ) → p < count → apart from (getD news p zeroVector) ≤ℤ r
   pub size : Within 640000000 r
 
 -- what is asked of the numbers, so that nothing overflows
@@ -36,18 +37,21 @@ pub record BothSized (a b : Vec2) : Type 0 where
   pub first : SizedPoint a
   pub second : SizedPoint b
 
-pub record SixSized (olds news : List Vec2) : Type 0 where
-  pub old : (p : ℕ) → p < 6 → SizedPoint (getD olds p zeroVector)
-  pub new : (p : ℕ) → p < 6 → SizedPoint (getD news p zeroVector)
+pub record AllSized (from : Vec2) (count : ℕ) (olds news : List Vec2) : Type 0 where
+  pub place : SizedPoint from
+  pub room : Counted count
+  pub old : (p : ℕ) → p < count → SizedPoint (getD olds p zeroVector)
+  pub new : (p : ℕ) → p < count → SizedPoint (getD news p zeroVector)
 
 pub record Measured (s : Station) (a : Vec2) (r : ℤ) : Type 0 where
   pub point : Measurable s a
   pub near : Within 640000000 r
 
 -- a step at a station, whose cell is to be written
-pub record AtStation (i : ℕ) (s : Station) (olds news : List Vec2) (near : ℤ) (r : Reaches) : Type 0 where
-  pub moves : SixMoves s olds news
-  pub spread : Spread olds news near
+pub record AtStation (i : ℕ) (s : Station) (count : ℕ) (olds news : List Vec2) (from : Vec2) (near : ℤ) (r : Reaches) : Type 0 where
+  pub moves : AllMoves s count olds news
+  pub place : Measurable s from
+  pub spread : Spread from count olds news near
   pub left : i < length (r .left)
   pub right : i < length (r .right)
   pub marks : i < length (r .marks)

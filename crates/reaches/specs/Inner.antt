@@ -7,6 +7,7 @@ use lib.ListN.{length, getD}
 use lib.IntN.{ℤ, pos}
 use Rattle.exact.specs.Size.{Within}
 use Rattle.plane.specs.declared.Vec2.{Vec2}
+use Rattle.marks.specs.Requires.{HasPlace, HavePlaces, Counted}
 use Rattle.path.specs.declared.Station.{Station}
 use Rattle.path.specs.Laying.{PathRuns, SoundStation, roomFor}
 use Rattle.walk.specs.Drawn.{stationAt}
@@ -35,22 +36,26 @@ pub record Movable (s : Station) (old new : Vec2) : Type 0 where
   pub from : SizedPoint old
   pub to : SizedPoint new
 
--- one of the six points
-pub record PointNumber (p : ℕ) : Type 0 where
-  pub small : p < 6
-
 pub record Numbered (p : ℕ) (s : Station) (old new : Vec2) : Type 0 where
-  pub number : PointNumber p
+  pub number : HasPlace p
   pub move : Movable s old new
 
--- the moves of all six
-pub record SixMoves (s : Station) (olds news : List Vec2) : Type 0 where
-  pub move : (p : ℕ) → p < 6 → Movable s (getD olds p zeroVector) (getD news p zeroVector)
+-- the moves of all points, of which there are so many
+pub record AllMoves (s : Station) (count : ℕ) (olds news : List Vec2) : Type 0 where
+  pub room : Counted count
+  pub move : (p : ℕ) → p < count → Movable s (getD olds p zeroVector) (getD news p zeroVector)
 
--- a step over a path
-pub record Crossable (asked : ℕ) (path : PathRuns) (olds news : List Vec2) (r : Reaches) : Type 0 where
+-- a step over a path, of a rig that has points
+pub record Crossable (asked : ℕ) (path : PathRuns) (count : ℕ) (olds news : List Vec2) (r : Reaches) : Type 0 where
   pub lent : roomFor asked path ≡ true
   pub room : Room asked r
   pub stations : (i : ℕ) → i < asked → SoundStation (stationAt path i)
-  pub old : (p : ℕ) → p < 6 → SizedPoint (getD olds p zeroVector)
-  pub new : (p : ℕ) → p < 6 → SizedPoint (getD news p zeroVector)
+  pub some : 0 < count
+  pub points : Counted count
+  pub old : (p : ℕ) → p < count → SizedPoint (getD olds p zeroVector)
+  pub new : (p : ℕ) → p < count → SizedPoint (getD news p zeroVector)
+
+-- stations searched for those that so many points have crossed
+pub record Searchable (count asked : ℕ) (r : Reaches) : Type 0 where
+  pub bits : HavePlaces count
+  pub room : Room asked r

@@ -1,12 +1,12 @@
 -- The widest place (01, "Stations and the widest place"): "the complete station with the greatest right minus left, lowest number among equals".
-use Prim.Native.Nat.{ℕ, zero, suc, _+_, _%_, _<_}
+use Prim.Native.Nat.{ℕ, zero, suc, _<_}
 use mathlib.Core.Path.{_≡_}
 use mathlib.Core.Bool.{Bool, true, false, _&&_}
-use lib.Dec.{eqb}
 use lib.IntN.{ℤ, _-ℤ_}
 use lib.Signed.{ltZ, _≤ℤ_, _<ℤ_}
 use Rattle.number.specs.Read.{pick}
 use Rattle.job.specs.Allowed.{between}
+use Rattle.marks.specs.Marks.{allSet}
 use Rattle.walk.specs.Tests.{reachesLent}
 use Rattle.reaches.specs.declared.Place.{Place}
 use Rattle.reaches.specs.declared.Cell.{Cell}
@@ -16,12 +16,9 @@ use Rattle.reaches.specs.declared.WidestAnswer.{WidestAnswer}
 use Rattle.reaches.specs.declared.WidestAnswer.the-variants as W
 use Rattle.reaches.specs.Cells.{Reaches, lengthsOf, cellAt}
 
--- "A station is complete when all six bits are set": the mark's lower bits make up the full mark
-abbrev pub sixPoints : ℕ
-sixPoints = 63
-
+-- "A station is complete when all six bits are set": the bits of all the rig's points
 abbrev pub complete : ℕ → Cell → Bool
-complete full c = eqb (c .mark % (full + 1)) full
+complete count c = allSet count (c .mark)
 
 abbrev pub width : Cell → ℤ
 width c = c .right -ℤ c .left
@@ -39,11 +36,11 @@ wider p Nothing = Found p
 wider p (Found q) = pick (beats p q) (Found p) (Found q)
 
 abbrev pub considered : ℕ → ℕ → Cell → Best → Best
-considered full i c b = pick (complete full c) (wider (placeOf i c) b) b
+considered count i c b = pick (complete count c) (wider (placeOf i c) b) b
 
 unfoldable pub widestAmong : ℕ → ℕ → Reaches → Best
-widestAmong full zero r = Nothing
-widestAmong full (suc i) r = considered full i (cellAt i r) (widestAmong full i r)
+widestAmong count zero r = Nothing
+widestAmong count (suc i) r = considered count i (cellAt i r) (widestAmong count i r)
 
 abbrev pub answerOf : Best → WidestAnswer
 answerOf Nothing = W.Refused 24
@@ -55,21 +52,21 @@ widestLent asked r = between 1 2001 asked && reachesLent asked (lengthsOf r)
 
 -- "the widest tests 21, 24"
 unfoldable pub widestAnswer : ℕ → ℕ → Reaches → WidestAnswer
-widestAnswer full asked r = pick (widestLent asked r) (answerOf (widestAmong full asked r)) (W.Refused 21)
+widestAnswer count asked r = pick (widestLent asked r) (answerOf (widestAmong count asked r)) (W.Refused 21)
 
 -- a place that is right to answer: a complete station as it stands in the runs, no complete one wider and none earlier as wide
-pub record IsWidest (full asked : ℕ) (r : Reaches) (p : Place) : Type 0 where
+pub record IsWidest (count asked : ℕ) (r : Reaches) (p : Place) : Type 0 where
   pub inside : p .station < asked
-  pub whole : complete full (cellAt (p .station) r) ≡ true
+  pub whole : complete count (cellAt (p .station) r) ≡ true
   pub read : p ≡ placeOf (p .station) (cellAt (p .station) r)
-  pub greatest : (i : ℕ) → i < asked → complete full (cellAt i r) ≡ true → width (cellAt i r) ≤ℤ p .width
-  pub earliest : (i : ℕ) → i < p .station → complete full (cellAt i r) ≡ true → width (cellAt i r) <ℤ p .width
+  pub greatest : (i : ℕ) → i < asked → complete count (cellAt i r) ≡ true → width (cellAt i r) ≤ℤ p .width
+  pub earliest : (i : ℕ) → i < p .station → complete count (cellAt i r) ≡ true → width (cellAt i r) <ℤ p .width
 
 abbrev pub NoneComplete : ℕ → ℕ → Reaches → Type 0
-NoneComplete full asked r = (i : ℕ) → i < asked → complete full (cellAt i r) ≡ false
+NoneComplete count asked r = (i : ℕ) → i < asked → complete count (cellAt i r) ≡ false
 
 -- the claim, over any runs: a place answered is right; 24 is answered exactly where the runs are lent and no station is complete
 pub record WidestPlace : Type 0 where
-  pub found : (full asked : ℕ) (r : Reaches) (p : Place) → widestAnswer full asked r ≡ W.At p → IsWidest full asked r p
-  pub nowhere : (full asked : ℕ) (r : Reaches) → widestAnswer full asked r ≡ W.Refused 24 → NoneComplete full asked r
-  pub only : (full asked : ℕ) (r : Reaches) → widestLent asked r ≡ true → NoneComplete full asked r → widestAnswer full asked r ≡ W.Refused 24
+  pub found : (count asked : ℕ) (r : Reaches) (p : Place) → widestAnswer count asked r ≡ W.At p → IsWidest count asked r p
+  pub nowhere : (count asked : ℕ) (r : Reaches) → widestAnswer count asked r ≡ W.Refused 24 → NoneComplete count asked r
+  pub only : (count asked : ℕ) (r : Reaches) → widestLent asked r ≡ true → NoneComplete count asked r → widestAnswer count asked r ≡ W.Refused 24

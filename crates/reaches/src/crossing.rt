@@ -1,10 +1,12 @@
 // What the points that cross a station make of its cell.
 use crate::Cell;
+use marks::POINT_CAPACITY;
 use path::Station;
 use plane::Vec2;
 ghost use mathlib.Core.Path.{_≡_};
-ghost use Rattle.reaches.specs.Crossing.{aheadOf, reachOf, crosses, smaller as smallerZ, greater as greaterZ, withBit, crossedBy, crossedFrom, someCrosses};
-ghost use Rattle.reaches.specs.Inner.{Measurable, Movable, PointNumber, Numbered, SixMoves};
+ghost use lib.ListN.{take};
+ghost use Rattle.reaches.specs.Crossing.{aheadOf, reachOf, crosses, smaller as smallerZ, greater as greaterZ, crossedBy, crossedFrom, someCrosses};
+ghost use Rattle.reaches.specs.Inner.{Measurable, Movable, Numbered, AllMoves};
 
 // How far ahead of a station a point lies, times the heading's length.
 pub(crate) fn ahead_of(s: Station, a: Vec2) -> i64
@@ -62,22 +64,6 @@ fn greater(a: i32, b: i32) -> i32
     if a <= b { b } else { a }
 }
 
-// The bit of each point in a mark.
-const BITS: [u8; 6] = [1, 2, 4, 8, 16, 32];
-
-// The mark with a point's bit set: added where it is clear, so no other bit changes.
-fn with_bit(p: usize, mark: u8) -> u8
-    requires { ⌜ PointNumber p ⌝ }
-    ensures { λ r. ⌜ r ≡ withBit p mark ⌝ }
-{
-    let bit = BITS[p];
-    if mark / bit % 2 == 1 {
-        mark
-    } else {
-        mark + bit
-    }
-}
-
 // A station's cell after the move of one point.
 fn crossed_cell(p: usize, s: Station, old: Vec2, new: Vec2, c: Cell) -> Cell
     requires { ⌜ Numbered p s old new ⌝ }
@@ -91,20 +77,26 @@ fn crossed_cell(p: usize, s: Station, old: Vec2, new: Vec2, c: Cell) -> Cell
         return Cell {
             left: smaller(left, smaller(a, b)),
             right: greater(right, greater(a, b)),
-            mark: with_bit(p, c.mark),
+            mark: marks::with_bit(p, c.mark),
         };
     }
     c
 }
 
-// The same after the moves of all points.
-pub(crate) fn crossed_by_all(s: Station, olds: [Vec2; 6], news: [Vec2; 6], c: Cell) -> Cell
-    requires { ⌜ SixMoves s olds news ⌝ }
-    ensures { λ r. ⌜ r ≡ crossedFrom 0 s olds news c ⌝ }
+// The same after the moves of all points, of which there are `count`.
+pub(crate) fn crossed_by_all(
+    s: Station,
+    count: usize,
+    olds: [Vec2; POINT_CAPACITY],
+    news: [Vec2; POINT_CAPACITY],
+    c: Cell,
+) -> Cell
+    requires { ⌜ AllMoves s count olds news ⌝ }
+    ensures { λ r. ⌜ r ≡ crossedFrom 0 s (take count olds) (take count news) c ⌝ }
 {
     let mut next = c;
     let mut p: usize = 0;
-    while p < 6 {
+    while p < count {
         let old = olds[p];
         let new = news[p];
         next = crossed_cell(p, s, old, new, next);
@@ -114,12 +106,17 @@ pub(crate) fn crossed_by_all(s: Station, olds: [Vec2; 6], news: [Vec2; 6], c: Ce
 }
 
 // Whether any point crosses a station. Apart from what a crossing does, so that nothing is copied at the many stations that none crosses.
-pub(crate) fn some_crosses(s: Station, olds: [Vec2; 6], news: [Vec2; 6]) -> bool
-    requires { ⌜ SixMoves s olds news ⌝ }
-    ensures { λ r. ⌜ r ≡ someCrosses s olds news ⌝ }
+pub(crate) fn some_crosses(
+    s: Station,
+    count: usize,
+    olds: [Vec2; POINT_CAPACITY],
+    news: [Vec2; POINT_CAPACITY],
+) -> bool
+    requires { ⌜ AllMoves s count olds news ⌝ }
+    ensures { λ r. ⌜ r ≡ someCrosses s (take count olds) (take count news) ⌝ }
 {
     let mut p: usize = 0;
-    while p < 6 {
+    while p < count {
         let old = olds[p];
         let new = news[p];
         if crosses_station(s, old, new) {

@@ -1,10 +1,11 @@
-// Which stations lie too far from the rig for any of its points to cross them: one product tells, in place of six.
+// Which stations lie too far from the rig for any of its points to cross them: one product tells, in place of one for each point.
+use marks::POINT_CAPACITY;
 use path::Station;
 use plane::Vec2;
 ghost use mathlib.Core.Path.{_≡_};
 ghost use lib.IntN.{pos, natAbs};
 ghost use Rattle.reaches.specs.Crossing.{greater as greaterZ};
-ghost use Rattle.reaches.specs.Far.{apart as apartZ, farOff, Spread, Sized, BothSized, SixSized, Measured};
+ghost use Rattle.reaches.specs.Far.{apart as apartZ, farOff, Spread, Sized, BothSized, AllSized, Measured};
 
 fn size(z: i64) -> i64
     requires { ⌜ Sized z ⌝ }
@@ -31,18 +32,22 @@ fn greater(a: i64, b: i64) -> i64
     if a <= b { b } else { a }
 }
 
-// As far as any point lies from the first, before the step and after it.
-pub(crate) fn spread(olds: [Vec2; 6], news: [Vec2; 6]) -> i64
-    requires { ⌜ SixSized olds news ⌝ }
-    ensures { λ r. ⌜ Spread olds news r ⌝ }
+// As far as any point lies from a place, before the step and after it.
+pub(crate) fn spread(
+    from: Vec2,
+    count: usize,
+    olds: [Vec2; POINT_CAPACITY],
+    news: [Vec2; POINT_CAPACITY],
+) -> i64
+    requires { ⌜ AllSized from count olds news ⌝ }
+    ensures { λ r. ⌜ Spread from count olds news r ⌝ }
 {
-    let first = olds[0];
     let mut most: i64 = 0;
     let mut p: usize = 0;
-    while p < 6 {
+    while p < count {
         let old = olds[p];
         let new = news[p];
-        most = greater(most, greater(apart(first, old), apart(first, new)));
+        most = greater(most, greater(apart(from, old), apart(from, new)));
         p += 1;
     }
     most

@@ -1,12 +1,17 @@
 // What the stations keep of the points that cross them, and where the rig is widest.
+use marks::Mark;
+use marks::POINT_CAPACITY;
 use path::Station;
 use plane::Vec2;
 ghost use mathlib.Core.Path.{_≡_};
+ghost use lib.ListN.{take};
 ghost use Rattle.path.specs.Laying.{pathRuns};
 ghost use Rattle.reaches.specs.Cells.{reachRuns, cleared};
 ghost use Rattle.reaches.specs.Crossing.{crossedStation, crossed};
-ghost use Rattle.reaches.specs.Widest.{sixPoints, complete as completeZ, placeOf, wider as widerOf, considered as consideredOf, widestAmong, widestLent, widestAnswer, WidestPlace};
-ghost use Rattle.reaches.specs.Inner.{Room, Crossable};
+ghost use Rattle.reaches.specs.Widest.{placeOf, wider as widerOf, considered as consideredOf, widestAmong, widestLent, widestAnswer, WidestPlace};
+ghost use Rattle.marks.specs.Count.{sixPoints};
+ghost use Rattle.marks.specs.Requires.{HavePlaces};
+ghost use Rattle.reaches.specs.Inner.{Room, Searchable, Crossable};
 ghost use Rattle.reaches.specs.Far.{AtStation};
 
 mod crossing;
@@ -16,7 +21,7 @@ mod far;
 pub struct Cell {
     pub left: i32,
     pub right: i32,
-    pub mark: u8,
+    pub mark: Mark,
 }
 
 // The widest place: its station, width, left and right.
@@ -39,7 +44,7 @@ pub enum WidestAnswer {
 }
 
 // Every station asked for, as a placement leaves it.
-pub fn clear(asked: usize, left: &mut [i32], right: &mut [i32], marks: &mut [u8])
+pub fn clear(asked: usize, left: &mut [i32], right: &mut [i32], marks: &mut [Mark])
     requires { ⌜ Room asked (reachRuns (now left) (now right) (now marks)) ⌝ }
     ensures { λ _. ⌜ reachRuns (now (left .exit)) (now (right .exit)) (now (marks .exit)) ≡ cleared asked (reachRuns (now (left .entry)) (now (right .entry)) (now (marks .entry))) ⌝ }
 {
@@ -52,31 +57,32 @@ pub fn clear(asked: usize, left: &mut [i32], right: &mut [i32], marks: &mut [u8]
     }
 }
 
-// A made step at one station, which is not written where no point crosses it; near is how far the points spread.
+// A made step at one station, which is not written where no point crosses it; near is how far the points spread from a place.
 fn cross_station(
     i: usize,
     s: Station,
-    olds: [Vec2; 6],
-    news: [Vec2; 6],
+    count: usize,
+    olds: [Vec2; POINT_CAPACITY],
+    news: [Vec2; POINT_CAPACITY],
+    from: Vec2,
     near: i64,
     left: &mut [i32],
     right: &mut [i32],
-    marks: &mut [u8],
+    marks: &mut [Mark],
 )
-    requires { ⌜ AtStation i s olds news near (reachRuns (now left) (now right) (now marks)) ⌝ }
-    ensures { λ _. ⌜ reachRuns (now (left .exit)) (now (right .exit)) (now (marks .exit)) ≡ crossedStation i s olds news (reachRuns (now (left .entry)) (now (right .entry)) (now (marks .entry))) ⌝ }
+    requires { ⌜ AtStation i s count olds news from near (reachRuns (now left) (now right) (now marks)) ⌝ }
+    ensures { λ _. ⌜ reachRuns (now (left .exit)) (now (right .exit)) (now (marks .exit)) ≡ crossedStation i s (take count olds) (take count news) (reachRuns (now (left .entry)) (now (right .entry)) (now (marks .entry))) ⌝ }
 {
-    let first = olds[0];
-    if far::far_off(s, first, near) {
+    if far::far_off(s, from, near) {
         return;
     }
-    if crossing::some_crosses(s, olds, news) {
+    if crossing::some_crosses(s, count, olds, news) {
         let cell = Cell {
             left: left[i],
             right: right[i],
             mark: marks[i],
         };
-        let next = crossing::crossed_by_all(s, olds, news, cell);
+        let next = crossing::crossed_by_all(s, count, olds, news, cell);
         let l = next.left;
         let r = next.right;
         left[i] = l;
@@ -85,36 +91,31 @@ fn cross_station(
     }
 }
 
-// A made step at every station asked for.
+// A made step at every station asked for, of a rig of so many points.
 pub fn cross(
     asked: usize,
     xs: &[i32],
     ys: &[i32],
     gxs: &[i32],
     gys: &[i32],
-    olds: [Vec2; 6],
-    news: [Vec2; 6],
+    count: usize,
+    olds: [Vec2; POINT_CAPACITY],
+    news: [Vec2; POINT_CAPACITY],
     left: &mut [i32],
     right: &mut [i32],
-    marks: &mut [u8],
+    marks: &mut [Mark],
 )
-    requires { ⌜ Crossable asked (pathRuns (now xs) (now ys) (now gxs) (now gys)) olds news (reachRuns (now left) (now right) (now marks)) ⌝ }
-    ensures { λ _. ⌜ reachRuns (now (left .exit)) (now (right .exit)) (now (marks .exit)) ≡ crossed asked (pathRuns (now (xs .entry)) (now (ys .entry)) (now (gxs .entry)) (now (gys .entry))) olds news (reachRuns (now (left .entry)) (now (right .entry)) (now (marks .entry))) ⌝ }
+    requires { ⌜ Crossable asked (pathRuns (now xs) (now ys) (now gxs) (now gys)) count olds news (reachRuns (now left) (now right) (now marks)) ⌝ }
+    ensures { λ _. ⌜ reachRuns (now (left .exit)) (now (right .exit)) (now (marks .exit)) ≡ crossed asked (pathRuns (now (xs .entry)) (now (ys .entry)) (now (gxs .entry)) (now (gys .entry))) (take count olds) (take count news) (reachRuns (now (left .entry)) (now (right .entry)) (now (marks .entry))) ⌝ }
 {
-    let near = far::spread(olds, news);
+    let first = olds[0];
+    let near = far::spread(first, count, olds, news);
     let mut i: usize = 0;
     while i < asked {
         let s = walk::tests::station_at(xs, ys, gxs, gys, i);
-        cross_station(i, s, olds, news, near, left, right, marks);
+        cross_station(i, s, count, olds, news, first, near, left, right, marks);
         i += 1;
     }
-}
-
-// Whether a station is complete; full is the mark of one that is, but for the bits above.
-fn complete(full: u8, c: Cell) -> bool
-    ensures { λ r. ⌜ r ≡ completeZ full c ⌝ }
-{
-    (c.mark as u32) % (full as u32 + 1) == full as u32
 }
 
 fn place_of(i: usize, c: Cell) -> Place
@@ -145,20 +146,21 @@ fn wider(p: Place, best: Best) -> Best
     }
 }
 
-// A station against the best so far.
-fn considered(full: u8, i: usize, c: Cell, best: Best) -> Best
-    ensures { λ r. ⌜ r ≡ consideredOf full i c best ⌝ }
+// A station against the best so far; only one that as many points have crossed as the rig has counts.
+fn considered(count: usize, i: usize, c: Cell, best: Best) -> Best
+    requires { ⌜ HavePlaces count ⌝ }
+    ensures { λ r. ⌜ r ≡ consideredOf count i c best ⌝ }
 {
-    if complete(full, c) {
+    if marks::all_set(count, c.mark) {
         return wider(place_of(i, c), best);
     }
     best
 }
 
-// The best of the stations below asked; full is the mark of a complete one.
-pub fn widest_among(full: u8, asked: usize, left: &[i32], right: &[i32], marks: &[u8]) -> Best
-    requires { ⌜ Room asked (reachRuns (now left) (now right) (now marks)) ⌝ }
-    ensures { λ r. ⌜ r ≡ widestAmong full asked (reachRuns (now (left .entry)) (now (right .entry)) (now (marks .entry))) ⌝ }
+// The best of the stations below asked, for a rig of so many points.
+pub fn widest_among(count: usize, asked: usize, left: &[i32], right: &[i32], marks: &[Mark]) -> Best
+    requires { ⌜ Searchable count asked (reachRuns (now left) (now right) (now marks)) ⌝ }
+    ensures { λ r. ⌜ r ≡ widestAmong count asked (reachRuns (now (left .entry)) (now (right .entry)) (now (marks .entry))) ⌝ }
 {
     let mut best = Best::Nothing;
     let mut i: usize = 0;
@@ -168,28 +170,25 @@ pub fn widest_among(full: u8, asked: usize, left: &[i32], right: &[i32], marks: 
             right: right[i],
             mark: marks[i],
         };
-        best = considered(full, i, cell, best);
+        best = considered(count, i, cell, best);
         i += 1;
     }
     best
 }
 
-fn widest_lent(asked: usize, left: &[i32], right: &[i32], marks: &[u8]) -> bool
+fn widest_lent(asked: usize, left: &[i32], right: &[i32], marks: &[Mark]) -> bool
     ensures { λ r. ⌜ r ≡ widestLent asked (reachRuns (now (left .entry)) (now (right .entry)) (now (marks .entry))) ⌝ }
 {
     ((1 <= asked) & (asked <= 2001))
         & ((asked <= left.len()) & ((asked <= right.len()) & (asked <= marks.len())))
 }
 
-// The mark of a station that all six points have crossed.
-pub const SIX_POINTS: u8 = 63;
-
 // The widest complete station, or 21, or 24 where none is complete.
-pub fn widest(asked: usize, left: &[i32], right: &[i32], marks: &[u8]) -> WidestAnswer
+pub fn widest(asked: usize, left: &[i32], right: &[i32], marks: &[Mark]) -> WidestAnswer
     ensures { λ r. ⌜ r ≡ widestAnswer sixPoints asked (reachRuns (now (left .entry)) (now (right .entry)) (now (marks .entry))) ⌝ }
 {
     if widest_lent(asked, left, right, marks) {
-        let best = widest_among(SIX_POINTS, asked, left, right, marks);
+        let best = widest_among(marks::SIX_POINTS, asked, left, right, marks);
         return match best {
             Best::Found(p) => WidestAnswer::At(p),
             Best::Nothing => WidestAnswer::Refused(24),

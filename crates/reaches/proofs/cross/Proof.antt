@@ -6,16 +6,18 @@ use native.Mathlib.Omega.{arith}
 use borrow.Author.Needs.{needs}
 use denote.Ref.{now}
 use lib.IntN.{ℤ}
+use lib.ListN.{take, getD}
 use Rattle.exact.proofs.Machine.{reread}
 use Rattle.plane.specs.declared.Vec2.{Vec2}
 use Rattle.path.specs.declared.Station.{Station}
 use Rattle.path.specs.Laying.{PathRuns, pathRuns}
 use Rattle.path.proofs.StoreLaws.{room}
 use Rattle.walk.specs.Drawn.{stationAt}
+use Rattle.walk.specs.Rig.{zeroVector}
 use Rattle.reaches.specs.declared.Cell.{Cell}
 use Rattle.reaches.specs.Cells.{Reaches, reachRuns}
 use Rattle.reaches.specs.Crossing.{crossedFrom, crossedStation, crossed}
-use Rattle.reaches.specs.Inner.{SixMoves}
+use Rattle.reaches.specs.Inner.{AllMoves}
 use Rattle.reaches.specs.Far.{Spread, AtStation}
 use Rattle.reaches.proofs.CellLaws.{none-yet, one-more, SameLengths, lengths-of, same-room}
 use Rattle.reaches.proofs.cross.Statement.{statement}
@@ -26,16 +28,23 @@ abbrev rule : PathRuns → List Vec2 → List Vec2 → ℕ → Cell → Cell
 rule path olds news i c = crossedFrom 0 (stationAt path i) olds news c
 
 abbrev Inv-loop : tie.InvT-loop
-Inv-loop asked xs ys gxs gys olds news left₀ right₀ marks₀ near i₀ left right marks i =
-    (i ≤ asked) × (reachRuns left right marks ≡ crossed i (pathRuns xs ys gxs gys) olds news (reachRuns left₀ right₀ marks₀))
+Inv-loop asked xs ys gxs gys count news left₀ right₀ marks₀ olds first near i₀ left right marks i =
+    (i ≤ asked) × (reachRuns left right marks ≡ crossed i (pathRuns xs ys gxs gys) (take count olds) (take count news) (reachRuns left₀ right₀ marks₀))
 
 abbrev μ-loop : tie.MeasureT-loop
-μ-loop asked xs ys gxs gys olds news left₀ right₀ marks₀ near i₀ left right marks i = asked - i
+μ-loop asked xs ys gxs gys count news left₀ right₀ marks₀ olds first near i₀ left right marks i = asked - i
 
 -- at the entry: the path and the runs
 module _ (s : tie.Start Inv-loop μ-loop) where
   abbrev path : PathRuns
   path = pathRuns (now (s .args .xs)) (now (s .args .ys)) (now (s .args .gxs)) (now (s .args .gys))
+
+  -- the points, before the step and after it
+  abbrev moved-from : List Vec2
+  moved-from = take (s .args .count) (s .args .t7)
+
+  abbrev moved-to : List Vec2
+  moved-to = take (s .args .count) (s .args .news)
 
   abbrev given : Reaches
   given = reachRuns (now (s .args .left)) (now (s .args .right)) (now (s .args .marks))
@@ -43,19 +52,22 @@ module _ (s : tie.Start Inv-loop μ-loop) where
 -- in the loop: the runs so far
 module _ (l : tie.At-loop Inv-loop μ-loop) where
   abbrev s : tie.Start Inv-loop μ-loop
-  s = l .before .before .before
+  s = l .before .before .before .before
 
   abbrev so-far : Reaches
   so-far = reachRuns (l .loop .left) (l .loop .right) (l .loop .marks)
 
   lengths : SameLengths so-far (given s)
-  lengths = lengths-of (rule (path s) (s .args .olds) (s .args .news)) (l .loop .i) (given s) (l .loop .inv .1)
+  lengths = lengths-of (rule (path s) (moved-from s) (moved-to s)) (l .loop .i) (given s) (l .loop .inv .1)
+
+array-copy-out-first : tie.Need-array-copy-out-first Inv-loop μ-loop
+array-copy-out-first c = search needs
 
 spread-requires : tie.Need-spread-requires Inv-loop μ-loop
-spread-requires c κs = let y = c .before .pre in record { old = y .old; new = y .new }
+spread-requires c κs = let y = c .before .before .pre in record { place = y .old 0 (y .some); room = y .points; old = y .old; new = y .new }
 
 loop-holds : tie.Need-loop-holds Inv-loop μ-loop
-loop-holds c = let s = c .before .before in (omega arith, sym (none-yet (rule (path s) (s .args .olds) (s .args .news)) (given s)))
+loop-holds c = let s = c .before .before .before in (omega arith, sym (none-yet (rule (path s) (moved-from s) (moved-to s)) (given s)))
 
 station-at-requires : tie.Need-station-at-requires Inv-loop μ-loop
 station-at-requires c κs =
@@ -68,10 +80,10 @@ module _ (c : tie.In-loop Inv-loop μ-loop) where
   abbrev here : Station
   here = stationAt (path (s (c .before))) (c .before .loop .i)
 
-  moves : SixMoves here (s (c .before) .args .olds) (s (c .before) .args .news)
+  moves : AllMoves here (s (c .before) .args .count) (s (c .before) .args .t7) (s (c .before) .args .news)
   moves =
       let y = s (c .before) .pre in
-      record { move = λ p h. record { station = y .stations (c .before .loop .i) (c .loop-test .taken); from = y .old p h; to = y .new p h } }
+      record { room = y .points; move = λ p h. record { station = y .stations (c .before .loop .i) (c .loop-test .taken); from = y .old p h; to = y .new p h } }
 
   abbrev near : ℤ
   near = reread (c .before .before .spread .result)
@@ -79,18 +91,18 @@ module _ (c : tie.In-loop Inv-loop μ-loop) where
   exact-near : near ≡ c .before .before .spread .result
   exact-near = search needs
 
-  at-station : AtStation (c .before .loop .i) here (s (c .before) .args .olds) (s (c .before) .args .news) near (so-far (c .before))
+  at-station : let a = s (c .before) .args in AtStation (c .before .loop .i) here (a .count) (a .t7) (a .news) (getD (a .t7) 0 zeroVector) near (so-far (c .before))
   at-station =
       let r = same-room (lengths (c .before)) (s (c .before) .pre .room) in
       let t = c .loop-test .taken in
-      record { moves = moves; spread = subst (Spread (s (c .before) .args .olds) (s (c .before) .args .news)) (sym exact-near) (c .before .before .spread .ensures); left = omega (arith, r .left); right = omega (arith, r .right); marks = omega (arith, r .marks) }
+      record { moves = moves; place = record { station = moves .move 0 (s (c .before) .pre .some) .station; point = moves .move 0 (s (c .before) .pre .some) .from }; spread = subst (Spread (getD (s (c .before) .args .t7) 0 zeroVector) (s (c .before) .args .count) (s (c .before) .args .t7) (s (c .before) .args .news)) (sym exact-near) (c .before .before .spread .ensures); left = omega (arith, r .left); right = omega (arith, r .right); marks = omega (arith, r .marks) }
 
 cross-station-requires : tie.Need-cross-station-requires Inv-loop μ-loop
 cross-station-requires c κs =
     let m = c .before .before .before in
     let i = m .before in
     let a = s (i .before) .args in
-    subst (λ (p : Station). AtStation (i .before .loop .i) p (a .olds) (a .news) (near i) (so-far (i .before))) (sym (m .station-at .ensures)) (at-station i)
+    subst (λ (p : Station). AtStation (i .before .loop .i) p (a .count) (a .t7) (a .news) (getD (a .t7) 0 zeroVector) (near i) (so-far (i .before))) (sym (m .station-at .ensures)) (at-station i)
 
 add-i : tie.Need-add-i Inv-loop μ-loop
 add-i c = search needs
@@ -105,8 +117,8 @@ loop-again c =
     let l = m .before .before in
     let a = s l .args in (
       search needs,
-      w .cross-station .ensures ∙ ap (λ (p : Station). crossedStation (l .loop .i) p (a .olds) (a .news) (so-far l)) (m .station-at .ensures)
-          ∙ one-more (rule (path (s l)) (a .olds) (a .news)) (given (s l)) (l .loop .i) (so-far l) _ (l .loop .inv .1) refl,
+      w .cross-station .ensures ∙ ap (λ (p : Station). crossedStation (l .loop .i) p (moved-from (s l)) (moved-to (s l)) (so-far l)) (m .station-at .ensures)
+          ∙ one-more (rule (path (s l)) (moved-from (s l)) (moved-to (s l))) (given (s l)) (l .loop .i) (so-far l) _ (l .loop .inv .1) refl,
     )
 
 same-length : tie.Need-same-length Inv-loop μ-loop
@@ -129,6 +141,7 @@ cross-spec =
     (tie.spec
     Inv-loop
     μ-loop
+    array-copy-out-first
     spread-requires
     loop-holds
     station-at-requires

@@ -5,14 +5,12 @@ use mathlib.Core.Bool.{false}
 use mathlib.Core.List.{List}
 use native.Mathlib.Omega.{arith}
 use borrow.Author.Needs.{needs}
-use lib.ListN.{length, getD, set}
+use lib.ListN.{getD, take, set}
 use lib.IntN.{pos}
 use Rattle.exact.specs.Size.{Within}
 use Rattle.exact.proofs.Machine.{reread, reread32}
 use Rattle.plane.specs.declared.Vec2.{Vec2}
 use Rattle.path.specs.declared.Station.{Station}
-use Rattle.job.proofs.Arrays.{unmapped}
-use Rattle.walk.specs.Rig.{zeroVector}
 use Rattle.reaches.specs.declared.Cell.{Cell}
 use Rattle.reaches.specs.Cells.{Reaches, reachRuns, cellAt, storeCell}
 use Rattle.reaches.specs.Crossing.{crossedFrom, someCrosses, crossedStation}
@@ -23,63 +21,68 @@ use Rattle.reaches.proofs.FarLaws.{far-none}
 use Rattle.reaches.proofs.cross_station.Statement.{statement}
 use Rattle.reaches.proofs.cross_station.Tie as tie
 
-array-copy-out-first : tie.Need-array-copy-out-first
-array-copy-out-first c = search needs
-
 -- the spread, read again
 exact-near : (s : tie.Start) → reread (s .args .near) ≡ s .args .near
 exact-near s = search needs
 
 far-off-requires : tie.Need-far-off-requires
 far-off-requires c κs =
-    let s = c .before .before in
-    let m = s .pre .moves .move 0 (omega arith) in
-    record { point = record { station = m .station; point = m .from }; near = subst (Within 640000000) (sym (exact-near s)) (s .pre .spread .size) }
+    let s = c .before in
+    record { point = s .pre .place; near = subst (Within 640000000) (sym (exact-near s)) (s .pre .spread .size) }
 
 -- none crosses: the runs are as they should be
 left-so : (i : ℕ) (s : Station) (olds news : List Vec2) (r : Reaches) → someCrosses s olds news ≡ false → r ≡ crossedStation i s olds news r
 left-so i s olds news r f = sym (ap (λ (x : Cell). storeCell i x r) (none-crosses 0 s olds news (cellAt i r) f) ∙ store-same i r)
 
-six : (s : tie.Start) → length (s .args .t3) ≡ 6
-six s = search (needs, unmapped)
-
 returns : tie.Need-returns
 returns c =
-    let s = c .before .before .before .before in
+    let s = c .before .before .before in
     let a = s .args in
-    let far = ap (farOff (a .s) (getD (a .t3) 0 zeroVector)) (sym (exact-near s)) ∙ sym (c .before .far-off .ensures) ∙ c .if1 .taken in
-    left-so (a .i) (a .s) (a .t3) (a .news) (reachRuns (a .left .now) (a .right .now) (a .marks .now))
-    (far-none (a .s) (s .pre .moves .move 0 (omega arith) .station) (a .t3) (a .news) (a .near) (six s) (s .pre .spread) far)
+    let far = ap (farOff (a .s) (a .from)) (sym (exact-near s)) ∙ sym (c .before .far-off .ensures) ∙ c .if1 .taken in
+    left-so (a .i) (a .s) (take (a .count) (a .olds)) (take (a .count) (a .news)) (reachRuns (a .left .now) (a .right .now) (a .marks .now))
+    (far-none (a .s) (s .pre .place .station) (a .from) (a .count) (a .olds) (a .news) (a .near) (s .pre .spread) far)
 
 some-crosses-requires : tie.Need-some-crosses-requires
 some-crosses-requires c κs = search needs
 
-mul-t21 : tie.Need-mul-t21
-mul-t21 c = search needs
+mul-t17 : tie.Need-mul-t17
+mul-t17 c = search needs
 
-slice-copy-out-t23 : tie.Need-slice-copy-out-t23
-slice-copy-out-t23 c = search needs
+slice-copy-out-t19 : tie.Need-slice-copy-out-t19
+slice-copy-out-t19 c = search needs
 
-mul-t24 : tie.Need-mul-t24
-mul-t24 c = search needs
+mul-t20 : tie.Need-mul-t20
+mul-t20 c = search needs
 
-slice-copy-out-t26 : tie.Need-slice-copy-out-t26
-slice-copy-out-t26 c = search needs
+slice-copy-out-t22 : tie.Need-slice-copy-out-t22
+slice-copy-out-t22 c = search needs
 
-slice-read-t28 : tie.Need-slice-read-t28
-slice-read-t28 c = search needs
+slice-read-t24 : tie.Need-slice-read-t24
+slice-read-t24 c = search needs
 
 crossed-by-all-requires : tie.Need-crossed-by-all-requires
 crossed-by-all-requires c κs = search needs
 
+-- the cell that is read, and what the points make of it
+module _ (d : tie.After-crossed-by-all) where
+  abbrev s : tie.Start
+  s = d .before .before .before .before .before .before .before .before .before
+
+  next : let a = s .args in d .crossed-by-all .result ≡ crossedFrom 0 (a .s) (take (a .count) (a .olds)) (take (a .count) (a .news)) (cellAt (a .i) (reachRuns (a .left .now) (a .right .now) (a .marks .now)))
+  next =
+      let a = s .args in
+      let l : reread32 (getD (a .left .now) (a .i) (pos 0)) ≡ getD (a .left .now) (a .i) (pos 0) = search needs in
+      let r : reread32 (getD (a .right .now) (a .i) (pos 0)) ≡ getD (a .right .now) (a .i) (pos 0) = search needs in
+      d .crossed-by-all .ensures ∙ ap (crossedFrom 0 (a .s) (take (a .count) (a .olds)) (take (a .count) (a .news))) (λ i. record { left = l i; right = r i; mark = getD (a .marks .now) (a .i) 0 })
+
 mul-l : tie.Need-mul-l
-mul-l c = search needs
+mul-l c = mul-t17 (c .before .before .before .before .before .before)
 
 slice-set-from-l : tie.Need-slice-set-from-l
 slice-set-from-l c = search needs
 
 mul-r : tie.Need-mul-r
-mul-r c = search needs
+mul-r c = mul-t17 (c .before .before .before .before .before .before)
 
 slice-set-from-r : tie.Need-slice-set-from-r
 slice-set-from-r c = search needs
@@ -96,18 +99,6 @@ same-length-2 c = search needs
 same-length-3 : tie.Need-same-length-3
 same-length-3 c = search needs
 
--- the cell that is read, and what the points make of it
-module _ (d : tie.After-crossed-by-all) where
-  abbrev s : tie.Start
-  s = d .before .before .before .before .before .before .before .before .before .before
-
-  next : let a = s .args in d .crossed-by-all .result ≡ crossedFrom 0 (a .s) (a .t3) (a .news) (cellAt (a .i) (reachRuns (a .left .now) (a .right .now) (a .marks .now)))
-  next =
-      let a = s .args in
-      let l : reread32 (getD (a .left .now) (a .i) (pos 0)) ≡ getD (a .left .now) (a .i) (pos 0) = search needs in
-      let r : reread32 (getD (a .right .now) (a .i) (pos 0)) ≡ getD (a .right .now) (a .i) (pos 0) = search needs in
-      d .crossed-by-all .ensures ∙ ap (crossedFrom 0 (a .s) (a .t3) (a .news)) (λ i. record { left = l i; right = r i; mark = getD (a .marks .now) (a .i) 0 })
-
 returns-2 : tie.Need-returns-2
 returns-2 c =
     let d = c .before .before in
@@ -121,22 +112,21 @@ returns-2 c =
 
 returns-3 : tie.Need-returns-3
 returns-3 c =
-    let a = c .before .before .before .before .before .before .args in
-    left-so (a .i) (a .s) (a .t3) (a .news) (reachRuns (a .left .now) (a .right .now) (a .marks .now)) (sym (c .before .some-crosses .ensures) ∙ c .if2 .left)
+    let a = c .before .before .before .before .before .args in
+    left-so (a .i) (a .s) (take (a .count) (a .olds)) (take (a .count) (a .news)) (reachRuns (a .left .now) (a .right .now) (a .marks .now)) (sym (c .before .some-crosses .ensures) ∙ c .if2 .left)
 
 pub cross-station-spec : {M : Type 1} → statement M
 cross-station-spec =
     tie.close
     (tie.spec
-    array-copy-out-first
     far-off-requires
     returns
     some-crosses-requires
-    mul-t21
-    slice-copy-out-t23
-    mul-t24
-    slice-copy-out-t26
-    slice-read-t28
+    mul-t17
+    slice-copy-out-t19
+    mul-t20
+    slice-copy-out-t22
+    slice-read-t24
     crossed-by-all-requires
     mul-l
     slice-set-from-l

@@ -2,8 +2,10 @@
 use mathlib.Core.Path.{_≡_, sym, _∙_}
 use mathlib.Core.Bool.{true}
 use borrow.Author.Needs.{needs}
+use lib.Dec.{lit≤}
+use Rattle.marks.specs.Count.{sixPoints}
 use Rattle.reaches.specs.Cells.{reachRuns}
-use Rattle.reaches.specs.Widest.{sixPoints, widestLent}
+use Rattle.reaches.specs.Widest.{widestLent}
 use Rattle.reaches.proofs.WidestLaws.{lent-room, not-lent, answered}
 use Rattle.reaches.proofs.widest.Statement.{statement}
 use Rattle.reaches.proofs.widest.Tie as tie
@@ -16,7 +18,7 @@ lent : (c : tie.Then1) → let a = c .before .before .before .args in widestLent
 lent c = sym (c .before .widest-lent .ensures) ∙ c .if1 .taken
 
 widest-among-requires : tie.Need-widest-among-requires
-widest-among-requires c κs = lent-room _ _ (lent c)
+widest-among-requires c κs = record { bits = record { places = lit≤ tt }; room = lent-room _ _ (lent c) }
 
 enum-known-best : tie.Need-enum-known-best
 enum-known-best c = search needs

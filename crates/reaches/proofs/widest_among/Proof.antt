@@ -14,13 +14,13 @@ use Rattle.reaches.proofs.widest_among.Statement.{statement}
 use Rattle.reaches.proofs.widest_among.Tie as tie
 
 abbrev Inv-loop : tie.InvT-loop
-Inv-loop full asked left right marks best₀ i₀ best i = (i ≤ asked) × (best ≡ widestAmong full i (reachRuns left right marks))
+Inv-loop count asked left right marks best₀ i₀ best i = (i ≤ asked) × (best ≡ widestAmong count i (reachRuns left right marks))
 
 abbrev μ-loop : tie.MeasureT-loop
-μ-loop full asked left right marks best₀ i₀ best i = asked - i
+μ-loop count asked left right marks best₀ i₀ best i = asked - i
 
 loop-holds : tie.Need-loop-holds Inv-loop μ-loop
-loop-holds c = (omega arith, sym (none-considered (c .before .args .full) _))
+loop-holds c = (omega arith, sym (none-considered (c .before .args .count) _))
 
 mul-t10 : tie.Need-mul-t10 Inv-loop μ-loop
 mul-t10 c = search needs
@@ -53,8 +53,8 @@ loop-again c =
     let i = l .loop .i in
     let x : reread32 (getD (a .left .now) i (pos 0)) ≡ getD (a .left .now) i (pos 0) = search needs in
     let y : reread32 (getD (a .right .now) i (pos 0)) ≡ getD (a .right .now) i (pos 0) = search needs in
-    let cell : _ ≡ _ = ap (λ (d : Cell). considered (a .full) i d (l .loop .best)) (λ j. record { left = x j; right = y j; mark = getD (a .marks .now) i 0 }) in
-    (search needs, c .considered .ensures ∙ cell ∙ one-considered (a .full) (reachRuns (a .left .now) (a .right .now) (a .marks .now)) i (l .loop .best) (l .loop .inv .1))
+    let cell : _ ≡ _ = ap (λ (d : Cell). considered (a .count) i d (l .loop .best)) (λ j. record { left = x j; right = y j; mark = getD (a .marks .now) i 0 }) in
+    (search needs, c .considered .ensures ∙ cell ∙ one-considered (a .count) (reachRuns (a .left .now) (a .right .now) (a .marks .now)) i (l .loop .best) (l .loop .inv .1))
 
 returns : tie.Need-returns Inv-loop μ-loop
 returns c =

@@ -4,18 +4,18 @@ use mathlib.Core.Path.{_≡_, refl, sym, _∙_, ap}
 use mathlib.Core.Bool.{Bool, true, false, _||_}
 use native.Mathlib.Omega.{arith}
 use borrow.Author.Needs.{needs}
-use lib.ListN.{length, drop}
+use lib.ListN.{length, take, drop}
 use Rattle.reaches.specs.Crossing.{someCrosses}
 use Rattle.reaches.proofs.CrossingLaws.{some-next, some-end}
 use Rattle.reaches.proofs.crossing.some_crosses.Statement.{statement}
 use Rattle.reaches.proofs.crossing.some_crosses.Tie as tie
 
 abbrev Inv-loop : tie.InvT-loop
-Inv-loop s olds news p₀ p =
-    (p ≤ 6) × (length olds ≡ 6) × (length news ≡ 6) × (someCrosses s (drop p olds) (drop p news) ≡ someCrosses s olds news)
+Inv-loop s count olds news p₀ p =
+    (p ≤ count) × (count ≤ length olds) × (count ≤ length news) × (someCrosses s (drop p (take count olds)) (drop p (take count news)) ≡ someCrosses s (take count olds) (take count news))
 
 abbrev μ-loop : tie.MeasureT-loop
-μ-loop s olds news p₀ p = 6 - p
+μ-loop s count olds news p₀ p = count - p
 
 loop-holds : tie.Need-loop-holds Inv-loop μ-loop
 loop-holds c = (omega arith, search needs, search needs, refl)
@@ -43,15 +43,13 @@ module _ (c : tie.After-crosses-station Inv-loop μ-loop) where
   l = c .before .before .before .before
 
   abbrev rest : Bool
-  rest = let a = l .before .args in someCrosses (a .s) (drop (l .loop .p + 1) (a .t2)) (drop (l .loop .p + 1) (a .t3))
+  rest = let a = l .before .args in someCrosses (a .s) (drop (l .loop .p + 1) (take (a .count) (a .t3))) (drop (l .loop .p + 1) (take (a .count) (a .t4)))
 
-  split : (t : Bool) → c .crosses-station .result ≡ t → let a = l .before .args in someCrosses (a .s) (a .t2) (a .t3) ≡ (t || rest)
+  split : (t : Bool) → c .crosses-station .result ≡ t → let a = l .before .args in someCrosses (a .s) (take (a .count) (a .t3)) (take (a .count) (a .t4)) ≡ (t || rest)
   split t e =
       let a = l .before .args in
       let i = c .before .before .before in
-      let old : l .loop .p < length (a .t2) = omega (arith, i .loop-test .taken, l .loop .inv .1) in
-      let new : l .loop .p < length (a .t3) = omega (arith, i .loop-test .taken, l .loop .inv .2) in
-      sym (l .loop .inv .3) ∙ some-next (l .loop .p) (a .s) (a .t2) (a .t3) old new ∙ ap (λ (t : Bool). t || rest) (sym (c .crosses-station .ensures) ∙ e)
+      sym (l .loop .inv .3) ∙ some-next (a .count) (l .loop .p) (a .s) (a .t3) (a .t4) (l .loop .inv .1) (l .loop .inv .2) (i .loop-test .taken) ∙ ap (λ (t : Bool). t || rest) (sym (c .crosses-station .ensures) ∙ e)
 
 returns : tie.Need-returns Inv-loop μ-loop
 returns c = sym (split (c .before) true (c .if1 .taken))
@@ -71,7 +69,7 @@ returns-2 : tie.Need-returns-2 Inv-loop μ-loop
 returns-2 c =
     let l = c .before in
     let a = l .before .args in
-    sym (some-end (l .loop .p) (a .s) (a .t2) (a .t3) (omega (arith, c .loop-test .left, l .loop .inv .1))) ∙ l .loop .inv .3
+    sym (some-end (a .count) (l .loop .p) (a .s) (a .t3) (a .t4) (omega (arith, c .loop-test .left))) ∙ l .loop .inv .3
 
 pub some-crosses-spec : {M : Type 1} → statement M
 some-crosses-spec =

@@ -11,21 +11,19 @@ use Rattle.exact.specs.Size.{Within}
 use Rattle.exact.proofs.Machine.{reread}
 use Rattle.walk.specs.Rig.{zeroVector}
 use Rattle.reaches.specs.Crossing.{greater}
-use Rattle.reaches.proofs.FarLaws.{Upto, apart-sized, upto-none, upto-next, upto-all}
+use Rattle.reaches.specs.Far.{Spread}
+use Rattle.reaches.proofs.FarLaws.{apart-sized, upto-none, upto-next}
 use Rattle.reaches.proofs.far.spread.Statement.{statement}
 use Rattle.reaches.proofs.far.spread.Tie as tie
 
 abbrev Inv-loop : tie.InvT-loop
-Inv-loop olds news first most₀ p₀ most p = (p ≤ 6) × Upto p olds news (toZ w64 most)
+Inv-loop from count olds news most₀ p₀ most p = (p ≤ count) × Spread from p olds news (toZ w64 most)
 
 abbrev μ-loop : tie.MeasureT-loop
-μ-loop olds news first most₀ p₀ most p = 6 - p
-
-array-copy-out-first : tie.Need-array-copy-out-first Inv-loop μ-loop
-array-copy-out-first c = search needs
+μ-loop from count olds news most₀ p₀ most p = count - p
 
 loop-holds : tie.Need-loop-holds Inv-loop μ-loop
-loop-holds c = (omega arith, upto-none _ _)
+loop-holds c = (omega arith, upto-none _ _ _)
 
 mul-old : tie.Need-mul-old Inv-loop μ-loop
 mul-old c = search needs
@@ -40,10 +38,10 @@ array-copy-out-new : tie.Need-array-copy-out-new Inv-loop μ-loop
 array-copy-out-new c = search needs
 
 apart-requires : tie.Need-apart-requires Inv-loop μ-loop
-apart-requires c κs = let i = c .before .before in let s = i .before .before .before in record { first = s .pre .old 0 (omega arith); second = s .pre .old (i .before .loop .p) (i .loop-test .taken) }
+apart-requires c κs = let i = c .before .before in let s = i .before .before in record { first = s .pre .place; second = s .pre .old (i .before .loop .p) (i .loop-test .taken) }
 
 apart-requires-2 : tie.Need-apart-requires-2 Inv-loop μ-loop
-apart-requires-2 c κs = let i = c .before .before .before in let s = i .before .before .before in record { first = s .pre .old 0 (omega arith); second = s .pre .new (i .before .loop .p) (i .loop-test .taken) }
+apart-requires-2 c κs = let i = c .before .before .before in let s = i .before .before in record { first = s .pre .place; second = s .pre .new (i .before .loop .p) (i .loop-test .taken) }
 
 greater-requires : tie.Need-greater-requires Inv-loop μ-loop
 greater-requires c κs = search needs
@@ -66,7 +64,7 @@ module _ (c : tie.After-greater2 Inv-loop μ-loop) where
   l = g .before .before .before .before .before .before
 
   abbrev s : tie.Start Inv-loop μ-loop
-  s = l .before .before
+  s = l .before
 
   exact-old : reread (g .before .before .apart .result) ≡ g .before .before .apart .result
   exact-old = search needs
@@ -83,15 +81,15 @@ module _ (c : tie.After-greater2 Inv-loop μ-loop) where
   most : reread (c .greater2 .result) ≡ greater (toZ w64 (l .loop .most)) (greater (g .before .before .apart .result) (g .before .apart2 .result))
   most = exact-most ∙ c .greater2 .ensures ∙ ap (greater (toZ w64 (l .loop .most))) (exact-inner ∙ g .greater .ensures ∙ ap₂ greater exact-old exact-new)
 
-  next : Upto (l .loop .p + 1) (s .args .t1) (s .args .t2) (reread (c .greater2 .result))
+  next : Spread (s .args .from) (l .loop .p + 1) (s .args .t3) (s .args .t4) (reread (c .greater2 .result))
   next =
       let old = g .before .before .apart .ensures in
       let new = g .before .apart2 .ensures in
       let p = g .before .before .before .before .before .loop-test .taken in
-      subst (Upto (l .loop .p + 1) (s .args .t1) (s .args .t2)) (sym most)
-      (upto-next (s .args .t1) (s .args .t2) (l .loop .p) _ _ _ (l .loop .inv .1) old new
-      (subst (Within 640000000) (sym old) (apart-sized _ _ (s .pre .old 0 (omega arith)) (s .pre .old (l .loop .p) p)))
-      (subst (Within 640000000) (sym new) (apart-sized _ _ (s .pre .old 0 (omega arith)) (s .pre .new (l .loop .p) p))))
+      subst (Spread (s .args .from) (l .loop .p + 1) (s .args .t3) (s .args .t4)) (sym most)
+      (upto-next (s .args .from) (s .args .t3) (s .args .t4) (l .loop .p) _ _ _ (l .loop .inv .1) old new
+      (subst (Within 640000000) (sym old) (apart-sized _ _ (s .pre .place) (s .pre .old (l .loop .p) p)))
+      (subst (Within 640000000) (sym new) (apart-sized _ _ (s .pre .place) (s .pre .new (l .loop .p) p))))
 
 loop-again : tie.Need-loop-again Inv-loop μ-loop
 loop-again c = (search needs, next c)
@@ -99,8 +97,9 @@ loop-again c = (search needs, next c)
 returns : tie.Need-returns Inv-loop μ-loop
 returns c =
     let l = c .before in
-    let e : l .loop .p ≡ 6 = omega (arith, l .loop .inv .0, c .loop-test .left) in
-    upto-all _ _ _ (subst (λ (n : ℕ). Upto n (l .before .before .args .t1) (l .before .before .args .t2) (toZ w64 (l .loop .most))) e (l .loop .inv .1))
+    let a = l .before .args in
+    let e : l .loop .p ≡ a .count = omega (arith, l .loop .inv .0, c .loop-test .left) in
+    subst (λ (n : ℕ). Spread (a .from) n (a .t3) (a .t4) (toZ w64 (l .loop .most))) e (l .loop .inv .1)
 
 pub spread-spec : {M : Type 1} → statement M
 spread-spec =
@@ -108,7 +107,6 @@ spread-spec =
     (tie.spec
     Inv-loop
     μ-loop
-    array-copy-out-first
     loop-holds
     mul-old
     array-copy-out-old
