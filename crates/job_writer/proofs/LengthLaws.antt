@@ -1,22 +1,24 @@
--- A job without a fault takes no more bytes than its fields' widths come to. Assumes nothing.
-use Prim.Native.Nat.{ℕ, suc, _+_, _*_, _^_, _≤_, _<_}
-use mathlib.Core.Path.{_≡_}
+-- A job without a fault takes no more bytes than its fields' widths come to, with the long lengths that its steps allow. Assumes nothing.
+use Prim.Native.Nat.{ℕ, suc, _+_, _*_, _^_, _/_, _%_, _≤_, _<_}
+use mathlib.Core.Path.{_≡_, refl}
 use mathlib.Core.List.{List, [], _∷_, _++_}
-use mathlib.Core.Bool.{Bool, true, _&&_}
+use mathlib.Core.Bool.{Bool, true, false, _&&_}
 use native.Mathlib.Omega.{arith}
+use native.Mathlib.Nat.{div-add-mod', mod-lt, mul-le-mul-left}
 use lib.ListN.{length, take, getD, length-append, length-take}
 use lib.Seq.{getD-take}
 use lib.IntN.{ℤ, natAbs}
 use lib.Dec.{eqb, leb}
-use borrow.Author.Tests.{leb-true}
+use borrow.Author.Tests.{leb-true, leb-false, eqb-true}
 use Rattle.number.specs.Read.{writeMany}
 use Rattle.number.specs.Number.{writeNumber}
 use Rattle.number.specs.Signed.{fieldOf, writeSigned}
+use Rattle.number.proofs.GroupLaws.{pick-by}
 use Rattle.number.proofs.FieldCodec.{both, within-most, field-size}
 use Rattle.number.proofs.Widths.{number-width, many-width}
-use Rattle.job.specs.Allowed.{wheelbaseAllowed, hitchMost, hitchAllowed, foldAllowed, overhangAllowed, halfWidthAllowed, coordinateAllowed, headingAllowed, lengthAllowed, curveAllowed, unitAllowed, widthsAllowed, startAllowed, elementAllowed}
+use Rattle.job.specs.Allowed.{wheelbaseAllowed, hitchMost, hitchAllowed, foldAllowed, overhangAllowed, halfWidthAllowed, coordinateAllowed, headingAllowed, stepAllowed, lengthAllowed, curveAllowed, unitAllowed, widthsAllowed, startAllowed, elementAllowed}
 use Rattle.job.specs.Curves.{radiusOf}
-use Rattle.job.specs.Steps.{tally}
+use Rattle.job.specs.Steps.{stepsOf, tally, stepsAllowed}
 use Rattle.job.specs.Faults.{faultOf, unitFault, unitsFault, elementFault, totalFault, elementsFault, judge}
 use Rattle.job.specs.Empty.{emptyElement}
 use Rattle.job.specs.declared.Unit.{Unit as VehicleUnit}
@@ -27,7 +29,7 @@ use Rattle.job.specs.declared.Job.{Job}
 use Rattle.job.proofs.FaultLaws.{first-none, or-none, fault-at, sound, sound-vehicle}
 use Rattle.job.proofs.FieldLaws.{hitch-most, fold-size, heading-sizes, radius-size}
 use Rattle.job_writer.specs.Write.{writeUnit, writeWidths, writeVehicle, writeStart, writeElement, writePath, writeJob}
-use Rattle.job_writer.specs.Length.{unitWidth, widthsWidth, startWidth, elementWidth, longestRecord}
+use Rattle.job_writer.specs.Length.{unitWidth, widthsWidth, startWidth, elementWidth, longLengths, longestRecord}
 
 -- a number in a range, by the range's most
 ranged : (k least most v : ℕ) → most < 128 ^ suc k → (leb least v && leb v most) ≡ true → length (writeNumber v) ≤ suc k
@@ -81,15 +83,43 @@ start-length s t =
       sized 2 1000000 (s .gy) (omega arith) (g .1),
     )
 
-pub element-length : (e : Element) → elementAllowed e ≡ true → length (writeElement e) ≤ elementWidth
-element-length e t =
-    let a = both (lengthAllowed (e .length)) (curveAllowed (e .curve)) t in
-    omega (
+-- full steps and a shorter one for the remainder make up the length
+covered : (step l : ℕ) → 0 < step → l ≤ stepsOf step l * step
+covered step l h =
+    let d = div-add-mod' l step in
+    pick-by (λ x. l ≤ (l / step + x) * step) (eqb (l % step) 0) {x = 0} {y = 1}
+    (λ t. omega (arith, eqb-true (l % step) 0 t)) (λ t. omega (arith, mod-lt l h))
+
+-- a step is at most 20,000, and 104 of them are less than a length of four bytes
+long-steps : (step l : ℕ) → stepAllowed step ≡ true → 128 ^ 3 ≤ l → 105 ≤ stepsOf step l
+long-steps step l t h =
+    let b = both (leb 100 step) (leb step 20000) t in
+    let least = leb-true 100 step (b .0) in
+    let most = leb-true step 20000 (b .1) in
+    omega (arith, covered step l (omega arith), mul-le-mul-left (stepsOf step l) most)
+
+-- a byte beyond the width is the fourth of a length that takes 105 steps or more
+pub element-length : (step : ℕ) (e : Element) → stepAllowed step ≡ true → elementAllowed e ≡ true → 105 * length (writeElement e) ≤ 105 * elementWidth + stepsOf step (e .length)
+element-length step e d t = go (leb (128 ^ 3) (e .length)) refl
+  where
+    a : (lengthAllowed (e .length) ≡ true) × (curveAllowed (e .curve) ≡ true)
+    a = both (lengthAllowed (e .length)) (curveAllowed (e .curve)) t
+
+    radius : length (writeElement e) ≤ length (writeNumber (e .length)) + 3
+    radius = omega (
       arith,
       length-append (writeNumber (e .length)) (writeSigned (radiusOf (e .curve))),
-      ranged 3 1 40000000 (e .length) (omega arith) (a .0),
       sized 2 1000000 (radiusOf (e .curve)) (omega arith) (radius-size (e .curve) (a .1)),
     )
+
+    go : (b : Bool) → leb (128 ^ 3) (e .length) ≡ b → 105 * length (writeElement e) ≤ 105 * elementWidth + stepsOf step (e .length)
+    go true p = omega (
+      arith,
+      radius,
+      ranged 3 1 40000000 (e .length) (omega arith) (a .0),
+      long-steps step (e .length) d (leb-true (128 ^ 3) (e .length) p),
+    )
+    go false p = omega (arith, radius, number-width 2 (e .length) (omega (arith, leb-false (128 ^ 3) (e .length) p)))
 
 -- values in a row without a fault
 many-length : {T A : Type 0} (w : A → List ℕ) (m : ℕ) (one : T → A → ℕ) (next : T → A → T) (end : T → ℕ) → ((t : T) (x : A) → one t x ≡ 0 → length (w x) ≤ m) → (t : T) (xs : List A) → faultOf one next end t xs ≡ 0 → length (writeMany w xs) ≤ length xs * m
@@ -107,13 +137,22 @@ units-length count us h f = omega (
   many-length writeUnit unitWidth (unitFault count) (λ i u. i + 1) (λ i. 0) (λ i u t. unit-length (eqb i 0) (eqb (i + 1) count) u (or-none (unitAllowed (eqb i 0) (eqb (i + 1) count) u) 3 0 t .0)) 0 (take count us) f,
 )
 
-pub elements-length : (step count : ℕ) (es : List Element) → count ≤ 64 → elementsFault step count es ≡ 0 → length (writeMany writeElement (take count es)) ≤ 64 * elementWidth
+-- elements without a fault, after so many steps: each byte beyond the widths takes 105 of the 2,000
+pub elements-steps : (step total : ℕ) (es : List Element) → stepAllowed step ≡ true → faultOf elementFault (tally step) totalFault total es ≡ 0 → 105 * length (writeMany writeElement es) + total ≤ 105 * (length es * elementWidth) + 2000
+unfolding faultOf writeMany
+elements-steps step total [] d h = omega (arith, leb-true total 2000 (or-none (stepsAllowed total) 8 0 h .0))
+elements-steps step total (e ∷ es) d h =
+    let n = first-none (elementFault total e) (faultOf elementFault (tally step) totalFault (tally step total e) es) h in
+    omega (
+      arith,
+      length-append (writeElement e) (writeMany writeElement es),
+      element-length step e d (or-none (elementAllowed e) 7 0 (n .0) .0),
+      elements-steps step (tally step total e) es d (n .1),
+    )
+
+pub elements-length : (step count : ℕ) (es : List Element) → stepAllowed step ≡ true → count ≤ 64 → elementsFault step count es ≡ 0 → length (writeMany writeElement (take count es)) ≤ 64 * elementWidth + longLengths
 unfolding elementsFault
-elements-length step count es h f = omega (
-  arith,
-  length-take count es,
-  many-length writeElement elementWidth elementFault (tally step) totalFault (λ t e q. element-length e (or-none (elementAllowed e) 7 0 q .0)) 0 (take count es) f,
-)
+elements-length step count es d h f = omega (arith, length-take count es, elements-steps step 0 (take count es) d f)
 
 pub record-length : (j : Job) → judge j ≡ 0 → length (writeJob j) ≤ longestRecord
 unfolding writeJob
@@ -138,7 +177,7 @@ record-length j h =
       start-length (j .start) (s .start),
       ranged 2 100 20000 (j .step) (omega arith) (s .step),
       number-width 0 (j .count) (omega arith),
-      elements-length (j .step) (j .count) (j .elements) m (s .elements),
+      elements-length (j .step) (j .count) (j .elements) (s .step) m (s .elements),
     )
 
 -- each element of a job without a fault is allowed

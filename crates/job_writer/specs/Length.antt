@@ -1,4 +1,4 @@
--- The greatest length of a job's record: the sum of its fields' widths.
+-- The greatest length of a job's record: the sum of its fields' widths, and one byte more for as many lengths as can need it.
 use Prim.Native.Nat.{ℕ, _+_, _*_}
 
 -- wheelbase, hitch and fold limit
@@ -13,10 +13,14 @@ widthsWidth = 3 + 3 + 3
 abbrev pub startWidth : ℕ
 startWidth = 4 + 4 + 3 + 3
 
--- length and radius
+-- a length below 2^21 = 2,097,152, and a radius
 abbrev pub elementWidth : ℕ
-elementWidth = 4 + 3
+elementWidth = 3 + 3
+
+-- a longer length takes a fourth byte; as a step is at most 20,000 ticks, it takes at least 105 of the job's 2,000 steps, so at most 19 lengths do
+abbrev pub longLengths : ℕ
+longLengths = 19
 
 -- the number of units, the units, the widths, the start, the step, the number of elements, the elements
 abbrev pub longestRecord : ℕ
-longestRecord = 1 + 4 * unitWidth + widthsWidth + startWidth + 3 + 1 + 64 * elementWidth
+longestRecord = 1 + 4 * unitWidth + widthsWidth + startWidth + 3 + 1 + (64 * elementWidth + longLengths)
