@@ -29,16 +29,3 @@ module _ (s : Drawn) (c : Call) where
 
   pub one-on : drawStep s c .answer ≡ made → drawStep s c .state .station ≡ s .station + 1
   one-on m = made-step s c (made-open m) m .1
-
-  vehicle-by : (a b d e : Bool) (t : Turning)
-      → pick a (pick b (pick d (pick e (turnedDown s 25) (afterTurning s t)) (turnedDown s 27)) (turnedDown s 26)) (turnedDown s 21) .state .vehicle ≡ s .vehicle
-  vehicle-by false b d e t = refl
-  vehicle-by true false d e t = refl
-  vehicle-by true true false e t = refl
-  vehicle-by true true true true t = refl
-  vehicle-by true true true false (turned ds) = refl
-  vehicle-by true true true false (stopped n u) = refl
-
-  pub vehicle-stays : drawStep s c .state .vehicle ≡ s .vehicle
-  unfolding drawStep
-  vehicle-stays = vehicle-by (lent c) (pathSound (c .asked) (c .path)) (recordSound (c .asked) s) (atLast (c .asked) s) (turningOf s c)

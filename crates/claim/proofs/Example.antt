@@ -17,7 +17,9 @@ use Rattle.walk.specs.declared.StepAnswer.the-variants as S
 use Rattle.walk.specs.Tests.{lent, stationSound, pathSound, vehicleSound, vectorSound, vectorsSound, recordSound, atLast}
 use Rattle.walk.specs.Units.{turnUnits}
 use Rattle.walk.specs.Rig.{zeroVector, startVectors, drawStep}
-use Rattle.points.specs.Ends.{rearEnd}
+use Rattle.marks.specs.Count.{pointCount}
+use Rattle.marks.specs.Marks.{allSet}
+use Rattle.points.specs.Ends.{unitPlaces}
 use Rattle.points.specs.Points.{pointAt, rigPoints}
 use Rattle.reaches.specs.Cells.{Reaches, reachRuns, atStations}
 use Rattle.reaches.specs.Crossing.{reachOf, crosses, crossedBy, crossedFrom}
@@ -120,7 +122,7 @@ unfolding halfTo nearestSize nearestZ hasLength faultOf unitsFault vehicleFault 
 placed = record { answered = refl; placed = refl; unchanged = λ n. absurd (n refl); runs = refl }
 
 chain : Chain (at 0) turns
-unfolding Chain halfTo nearestSize nearestZ hasLength faultOf unitsFault vehicleFault turnedBy tooFar hitchOffset foldAllowed lent stationSound pathSound vehicleSound vectorSound vectorsSound recordSound atLast turnUnits drawStep rearEnd pointAt rigPoints atStations reachOf crosses crossedBy crossedFrom
+unfolding Chain halfTo nearestSize nearestZ hasLength faultOf unitsFault vehicleFault turnedBy tooFar hitchOffset foldAllowed lent stationSound pathSound vehicleSound vectorSound vectorsSound recordSound atLast turnUnits drawStep unitPlaces pointCount allSet pointAt rigPoints atStations reachOf crosses crossedBy crossedFrom
 chain = (
   record { stepped = refl; unchanged = λ n. absurd (n refl); runs = refl },
   (

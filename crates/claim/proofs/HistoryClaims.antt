@@ -3,6 +3,8 @@ use mathlib.Core.Path.{refl, sym, ap₂}
 use native.Mathlib.Omega.{arith}
 use lib.IntN.{ℤ, _-ℤ_}
 use Rattle.walk.specs.Drawn.{stationAt}
+use Rattle.marks.specs.Count.{pointCount}
+use Rattle.marks.specs.Marks.{allSet}
 use Rattle.reaches.specs.Cells.{cellAt}
 use Rattle.reaches.specs.Widest.{widestAmong, widestLent, widestAnswer}
 use Rattle.claim.specs.StationHistory.{runsLeft, Kept, movesOf, runsOf, StationHistory}
@@ -18,9 +20,9 @@ pub station-history : StationHistory
 station-history = record { kept = kept; entered = entered; refusedLeaves = left-as-was; someCalls = (example, example-lawful, refl) }
 
 pub widest-history : WidestHistory
-unfolding runsLeft widestAmong widestLent widestAnswer
+unfolding pointCount allSet runsLeft widestAmong widestLent widestAnswer
 widest-history =
-    let k : Kept (stationAt (example .path) 2) (movesOf example) (cellAt 2 (runsOf example)) = kept example example-lawful 2 (omega arith) in
+    let k : Kept (pointCount (example .vehicle)) (stationAt (example .path) 2) (movesOf example) (cellAt 2 (runsOf example)) = kept example example-lawful 2 (omega arith) in
     record {
       asked = asked-told;
       ran = ran-told;

@@ -13,7 +13,8 @@ use Rattle.plane.specs.declared.Vec2.{Vec2}
 use Rattle.path.specs.declared.Station.{Station}
 use Rattle.walk.specs.Rig.{zeroVector}
 use Rattle.reaches.specs.declared.Cell.{Cell}
-use Rattle.reaches.specs.Crossing.{reachOf, crosses, smaller, greater, hasBit, crossedBy, crossedFrom}
+use Rattle.marks.specs.Marks.{hasBit}
+use Rattle.reaches.specs.Crossing.{reachOf, crosses, smaller, greater, crossedBy, crossedFrom}
 use Rattle.reaches.proofs.LeastGreatest.{sorted, smaller-least, greater-most}
 use Rattle.reaches.proofs.CrossingLaws.{step-bit}
 use Rattle.claim.specs.StationHistory.{Moves, everCrossed, enteringIn, entering, leastOf, greatestOf}
@@ -69,14 +70,14 @@ step-right p s (old ∷ olds) (new ∷ news) c = step-right (p + 1) s olds news 
     by false e = rw e refl
 
 -- from a cell at the start to one at the end
-pub record KeptFrom (s : Station) (ms : List Moves) (c0 c : Cell) : Type 0 where
-  pub bits : (p : ℕ) → p < 6 → hasBit p (c .mark) ≡ (everCrossed p s ms || hasBit p (c0 .mark))
+pub record KeptFrom (n : ℕ) (s : Station) (ms : List Moves) (c0 c : Cell) : Type 0 where
+  pub bits : (p : ℕ) → p < n → hasBit p (c .mark) ≡ (everCrossed p s ms || hasBit p (c0 .mark))
   pub left : c .left ≡ leastOf (c0 .left) (entering s ms)
   pub right : c .right ≡ greatestOf (c0 .right) (entering s ms)
 
-pub kept-none : (s : Station) (c : Cell) → KeptFrom s [] c c
+pub kept-none : (n : ℕ) (s : Station) (c : Cell) → KeptFrom n s [] c c
 unfolding everCrossed entering leastOf greatestOf
-kept-none s c = record { bits = λ p h. refl; left = refl; right = refl }
+kept-none n s c = record { bits = λ p h. refl; left = refl; right = refl }
 
 bit-kept : (s : Station) (olds news : List Vec2) (c : Cell) (p : ℕ) → p < length olds → p < length news
     → hasBit p (crossedFrom 0 s olds news c .mark) ≡ (crosses s (getD olds p zeroVector) (getD news p zeroVector) || hasBit p (c .mark))
@@ -90,14 +91,14 @@ either-order true false c = refl
 either-order false true c = refl
 either-order false false c = refl
 
-pub kept-more : (s : Station) (m : Moves) (ms : List Moves) (c0 c : Cell) → length (m .olds) ≡ 6 → length (m .news) ≡ 6
-    → KeptFrom s ms (crossedFrom 0 s (m .olds) (m .news) c0) c → KeptFrom s (m ∷ ms) c0 c
+pub kept-more : (n : ℕ) (s : Station) (m : Moves) (ms : List Moves) (c0 c : Cell) → length (m .olds) ≡ n → length (m .news) ≡ n
+    → KeptFrom n s ms (crossedFrom 0 s (m .olds) (m .news) c0) c → KeptFrom n s (m ∷ ms) c0 c
 unfolding everCrossed entering
-kept-more s m ms c0 c n k h =
+kept-more n s m ms c0 c e k h =
     record {
       bits = λ p l.
           h .bits p l
-          ∙ ap (λ (t : Bool). everCrossed p s ms || t) (bit-kept s (m .olds) (m .news) c0 p (omega (arith, n)) (omega (arith, k)))
+          ∙ ap (λ (t : Bool). everCrossed p s ms || t) (bit-kept s (m .olds) (m .news) c0 p (omega (arith, e)) (omega (arith, k)))
           ∙ either-order (everCrossed p s ms) (crosses s (getD (m .olds) p zeroVector) (getD (m .news) p zeroVector)) (hasBit p (c0 .mark));
       left = h .left ∙ ap (λ (z : ℤ). leastOf z (entering s ms)) (step-left 0 s (m .olds) (m .news) c0) ∙ sym (least-append (c0 .left) (enteringIn s (m .olds) (m .news)) (entering s ms));
       right = h .right ∙ ap (λ (z : ℤ). greatestOf z (entering s ms)) (step-right 0 s (m .olds) (m .news) c0) ∙ sym (greatest-append (c0 .right) (enteringIn s (m .olds) (m .news)) (entering s ms));

@@ -8,7 +8,6 @@ pub mod CallsWitness
 pub mod DrawnCalls
 pub mod HistoryLaws
 pub mod HistoryKept
-pub mod WholeRig
 pub mod RunFollows
 pub mod RunKept
 pub mod EnteredLaws

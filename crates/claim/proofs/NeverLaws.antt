@@ -2,11 +2,13 @@
 use Prim.Native.Nat.{ℕ, zero, suc, _+_, _≤_, _<_}
 use mathlib.Core.Path.{_≡_, refl, sym, _∙_, ap, subst}
 use mathlib.Core.List.{List, [], _∷_, map}
+use native.Mathlib.Nat as NatL
 use native.Mathlib.Omega.{arith}
 use native.Mathlib.Decide.{decLt}
 use lib.ListN.{length, getD, set, length-set, length-map, List·getD-map}
 use lib.Seq.{sets, drop-set-lt, map-set-same, getD-set-other}
 use lib.IntN.{ℤ}
+use lib.Pow.{pow-pos}
 use Rattle.job.specs.declared.Job.{Job}
 use Rattle.job.specs.declared.Vehicle.{Vehicle}
 use Rattle.path.specs.declared.Station.{Station}
@@ -18,22 +20,25 @@ use Rattle.walk.specs.declared.Walk.{Walk}
 use Rattle.walk.specs.declared.Advanced.{Advanced}
 use Rattle.walk.specs.Drawn.{Drawn, view, Call, stationAt, Outcome, made, refused, refusedAt}
 use Rattle.walk.specs.Rig.{drawStep}
-use Rattle.points.specs.Points.{rigPoints}
+use Rattle.marks.specs.Count.{pointCount}
+use Rattle.marks.specs.Marks.{bitsFrom}
+use Rattle.points.proofs.PointLaws.{points-at-most}
 use Rattle.reaches.specs.declared.Cell.{Cell}
 use Rattle.reaches.specs.Cells.{Reaches, cellAt, cleared, atStations}
 use Rattle.reaches.specs.Crossing.{crossed, crossedFrom}
-use Rattle.reaches.proofs.CrossingLaws.{step-top}
+use Rattle.reaches.proofs.CrossingLaws.{step-above}
 use Rattle.stations.specs.declared.Placing.{Placing}
 use Rattle.stations.specs.Placing.{callOf, placeRefusal, unlessRefused, PlaceEnsures}
 use Rattle.stations.specs.Stepping.{pointsAt, ifMade, StepEnsures}
 use Rattle.run.specs.declared.Ran.the-variants as R
 use Rattle.run.specs.Walking.{Course, walkOn}
 use Rattle.run.specs.Run.{runRefusal, jobPath, jobCourse}
+use Rattle.run.proofs.CourseLaws.{vehicle-stays}
 use Rattle.ranking.specs.declared.Listed.{Listed}
 use Rattle.bogie.specs.Settings.{Rail, lastSetting, jobSet}
 use Rattle.bogie.specs.List.{listRefusal, ListEnsures}
 use Rattle.claim.specs.WholeRun.{Run, Ensured}
-use Rattle.claim.specs.NeverWritten.{topTwo, topTwoBits, PastKept, PathPastKept, ReachesPastKept, stationCount, StepNever, PlaceNever, RunNever, NeverWritten}
+use Rattle.claim.specs.NeverWritten.{bitsAbove, PastKept, PathPastKept, ReachesPastKept, stationCount, StepNever, PlaceNever, RunNever, NeverWritten}
 use Rattle.claim.proofs.CallsKept.{none-refused}
 use Rattle.claim.proofs.CallsThere.{no-refusal}
 
@@ -68,17 +73,26 @@ stations-past f (suc n) k r h =
     reaches-then k r s _ (stations-past f n k r (omega arith))
     (record { left = set-past k (s .left) n (c .left) (omega arith); right = set-past k (s .right) n (c .right) (omega arith); marks = set-past k (s .marks) n (c .mark) (omega arith) })
 
--- a mark replaced by one with the same top bits
-set-top : (l : List ℕ) (n v i : ℕ) → topTwo v ≡ topTwo (getD l n 0) → topTwo (getD (set l n v) i 0) ≡ topTwo (getD l i 0)
-set-top l n v i e =
-    sym (List·getD-map topTwo (set l n v) i 0) ∙ ap (λ (m : List ℕ). getD m i 0) (map-set-same topTwo l n v 0 e) ∙ List·getD-map topTwo l i 0
+-- a mark replaced by one with the same bits above
+module _ (v : Vehicle) where
+  abbrev above : ℕ → ℕ
+  above = bitsFrom (pointCount v)
 
-stations-top : (f : ℕ → Cell → Cell) → ((i : ℕ) (c : Cell) → topTwo (f i c .mark) ≡ topTwo (c .mark)) → (n : ℕ) (r : Reaches) (i : ℕ) → topTwoBits i (atStations f n r) ≡ topTwoBits i r
-unfolding atStations
-stations-top f h zero r i = refl
-stations-top f h (suc n) r i =
-    let s = atStations f n r in
-    set-top (s .marks) n (f n (cellAt n s) .mark) i (h n (cellAt n s)) ∙ stations-top f h n r i
+  zero-above : above 0 ≡ 0
+  zero-above = NatL.div-eq-of-lt (pow-pos (pointCount v))
+
+  marks-above : (l : List ℕ) (i : ℕ) → getD (map above l) i 0 ≡ above (getD l i 0)
+  marks-above l i = ap (getD (map above l) i) (sym zero-above) ∙ List·getD-map above l i 0
+
+  set-above : (l : List ℕ) (n m i : ℕ) → above m ≡ above (getD l n 0) → above (getD (set l n m) i 0) ≡ above (getD l i 0)
+  set-above l n m i e = sym (marks-above (set l n m) i) ∙ ap (λ (k : List ℕ). getD k i 0) (map-set-same above l n m 0 e) ∙ marks-above l i
+
+  stations-above : (f : ℕ → Cell → Cell) → ((i : ℕ) (c : Cell) → above (f i c .mark) ≡ above (c .mark)) → (n : ℕ) (r : Reaches) (i : ℕ) → bitsAbove v i (atStations f n r) ≡ bitsAbove v i r
+  unfolding atStations
+  stations-above f h zero r i = refl
+  stations-above f h (suc n) r i =
+      let s = atStations f n r in
+      set-above (s .marks) n (f n (cellAt n s) .mark) i (h n (cellAt n s)) ∙ stations-above f h n r i
 
 -- a mark that was cleared
 zeroed : (l : List ℕ) (n : ℕ) → getD (set l n 0) n 0 ≡ 0
@@ -86,28 +100,26 @@ zeroed [] n = refl
 zeroed (x ∷ l) zero = refl
 zeroed (x ∷ l) (suc n) = zeroed l n
 
-cleared-top : (n : ℕ) (r : Reaches) (i : ℕ) → i < n → topTwoBits i (cleared n r) ≡ 0
+cleared-mark : (n : ℕ) (r : Reaches) (i : ℕ) → i < n → getD (cleared n r .marks) i 0 ≡ 0
 unfolding atStations
-cleared-top zero r i h = absurd (omega arith)
-cleared-top (suc n) r i h = by (decLt i n) (cleared-top n r i)
+cleared-mark zero r i h = absurd (omega arith)
+cleared-mark (suc n) r i h = by (decLt i n) (cleared-mark n r i)
   where
-    by : Dec (i < n) → (i < n → topTwoBits i (cleared n r) ≡ 0) → topTwoBits i (cleared (suc n) r) ≡ 0
-    by (yes l) below = ap topTwo (getD-set-other (cleared n r .marks) n i 0 0 (λ e. omega arith)) ∙ below l
+    by : Dec (i < n) → (i < n → getD (cleared n r .marks) i 0 ≡ 0) → getD (cleared (suc n) r .marks) i 0 ≡ 0
+    by (yes l) below = getD-set-other (cleared n r .marks) n i 0 0 (λ e. omega arith) ∙ below l
     by (no f) below =
         let e : i ≡ n = omega arith in
-        ap (λ (k : ℕ). topTwoBits k (cleared (suc n) r)) e ∙ ap topTwo (zeroed (cleared n r .marks) n)
+        ap (λ (k : ℕ). getD (cleared (suc n) r .marks) k 0) e ∙ zeroed (cleared n r .marks) n
 
 -- the crossings of a step
-six-at-most : (s : Drawn) (c : Call) → length (pointsAt s c) ≤ 6
-unfolding rigPoints
-six-at-most s c = omega arith
-
 module _ (asked : ℕ) (path : PathRuns) (s s' : Drawn) (c : Call) (r : Reaches) where
   crossed-past : ReachesPastKept asked r (crossed asked path (pointsAt s c) (pointsAt s' c) r)
   crossed-past = stations-past _ asked asked r (omega arith)
 
-  crossed-top : (i : ℕ) → topTwoBits i (crossed asked path (pointsAt s c) (pointsAt s' c) r) ≡ topTwoBits i r
-  crossed-top = stations-top (λ i x. crossedFrom 0 (stationAt path i) (pointsAt s c) (pointsAt s' c) x) (λ i x. step-top 0 (stationAt path i) (pointsAt s c) (pointsAt s' c) x (let h = six-at-most s c in omega arith)) asked r
+  crossed-above : (v : Vehicle) → s .vehicle ≡ v → (i : ℕ) → bitsAbove v i (crossed asked path (pointsAt s c) (pointsAt s' c) r) ≡ bitsAbove v i r
+  crossed-above v e =
+      let most : length (pointsAt s c) ≤ pointCount v = subst (λ (x : Vehicle). length (pointsAt s c) ≤ pointCount x) e (points-at-most (s .vehicle) (s .vectors) _) in
+      stations-above v (λ i x. crossedFrom 0 (stationAt path i) (pointsAt s c) (pointsAt s' c) x) (λ i x. step-above (pointCount v) 0 (stationAt path i) (pointsAt s c) (pointsAt s' c) x (omega (arith, most))) asked r
 
 -- what holds of runs left alone and of a step's crossings holds along a walk
 module _ (R : Reaches → Reaches → Type 0) (same : (r : Reaches) → R r r) where
@@ -121,34 +133,34 @@ module _ (R : Reaches → Reaches → Type 0) (same : (r : Reaches) → R r r) w
   course-by (refused n) a b r h k = k
   course-by (refusedAt n u) a b r h k = k
 
-  module _ (then : (a b c : Reaches) → R a b → R b c → R a c) (asked : ℕ) (path : PathRuns)
-      (step : (s s' : Drawn) (c : Call) (r : Reaches) → R r (crossed asked path (pointsAt s c) (pointsAt s' c) r)) where
-    along : (n : ℕ) (s : Drawn) (r : Reaches) → R r (walkOn n asked path s r .runs)
+  module _ (then : (a b c : Reaches) → R a b → R b c → R a c) (asked : ℕ) (path : PathRuns) (v : Vehicle)
+      (step : (s s' : Drawn) → s .vehicle ≡ v → (c : Call) (r : Reaches) → R r (crossed asked path (pointsAt s c) (pointsAt s' c) r)) where
+    along : (n : ℕ) (s : Drawn) → s .vehicle ≡ v → (r : Reaches) → R r (walkOn n asked path s r .runs)
     unfolding walkOn
-    along zero s r = same r
-    along (suc n) s r =
+    along zero s e r = same r
+    along (suc n) s e r =
         let c = callOf asked path r in
         let t = drawStep s c in
         let x = crossed asked path (pointsAt s c) (pointsAt (t .state) c) r in
         course-by (t .answer) (walkOn n asked path (t .state) x) (record { answer = t .answer; state = t .state; runs = r }) r
-        (then r x _ (step s (t .state) c r) (along n (t .state) x)) (same r)
+        (then r x _ (step s (t .state) e c r) (along n (t .state) (vehicle-stays s c ∙ e) x)) (same r)
 
-abbrev SameTop : Reaches → Reaches → Type 0
-SameTop a b = (i : ℕ) → topTwoBits i b ≡ topTwoBits i a
+abbrev SameAbove : Vehicle → Reaches → Reaches → Type 0
+SameAbove v a b = (i : ℕ) → bitsAbove v i b ≡ bitsAbove v i a
 
-top-same : (r : Reaches) → SameTop r r
-top-same r i = refl
+above-same : (v : Vehicle) (r : Reaches) → SameAbove v r r
+above-same v r i = refl
 
-top-then : (a b c : Reaches) → SameTop a b → SameTop b c → SameTop a c
-top-then a b c h k i = k i ∙ h i
+above-then : (v : Vehicle) (a b c : Reaches) → SameAbove v a b → SameAbove v b c → SameAbove v a c
+above-then v a b c h k i = k i ∙ h i
 
 -- the entries
-step-never : (w : Walk) (c : Call) (before : Reaches) (r : Advanced) (after : Reaches) → StepEnsures w c before r after → StepNever c before after
+step-never : (w : Walk) (c : Call) (before : Reaches) (r : Advanced) (after : Reaches) → StepEnsures w c before r after → StepNever (w .vehicle) c before after
 step-never w c before r after k =
     let s' = drawStep (view w) c .state in
     let o = drawStep (view w) c .answer in
     record {
-      top = subst (SameTop before) (sym (k .runs)) (if-made SameTop top-same o _ before (crossed-top (c .asked) (c .path) (view w) s' c before));
+      above = subst (SameAbove (w .vehicle) before) (sym (k .runs)) (if-made (SameAbove (w .vehicle)) (above-same (w .vehicle)) o _ before (crossed-above (c .asked) (c .path) (view w) s' c before (w .vehicle) refl));
       past = subst (ReachesPastKept (c .asked) before) (sym (k .runs)) (if-made (ReachesPastKept (c .asked)) (reaches-same (c .asked)) o _ before (crossed-past (c .asked) (c .path) (view w) s' c before));
     }
 
@@ -159,9 +171,9 @@ unless-refused P (suc n) a b h k = k
 place-never : (v : Vehicle) (w : Walk) (c : Call) (before : Reaches) (p : Placing) (after : Reaches) → PlaceEnsures v w c before p after → PlaceNever c before p after
 place-never v w c before p after k =
     record {
-      top = λ e i h.
+      cleared = λ e i h.
           let z = none-refused (placeRefusal v c) (sym (k .answered) ∙ e) in
-          ap (topTwoBits i) (k .runs ∙ ap (λ (n : ℕ). unlessRefused n (cleared (c .asked) before) before) z) ∙ cleared-top (c .asked) before i h;
+          ap (λ (x : Reaches). getD (x .marks) i 0) (k .runs ∙ ap (λ (n : ℕ). unlessRefused n (cleared (c .asked) before) before) z) ∙ cleared-mark (c .asked) before i h;
       past = subst (ReachesPastKept (c .asked) before) (sym (k .runs))
           (unless-refused (ReachesPastKept (c .asked) before) (placeRefusal v c) (cleared (c .asked) before) before (stations-past _ (c .asked) (c .asked) before (omega arith)) (reaches-same (c .asked) before));
     }
@@ -189,7 +201,7 @@ module _ (j : Job) (p : PathRuns) (r : Reaches) where
   course-past =
       let n = stationCount j in
       reaches-then n r (cleared n r) (jobCourse j p r .runs) (stations-past _ n n r (omega arith))
-      (along (ReachesPastKept n) (reaches-same n) (reaches-then n) n (jobPath j p) (crossed-past n (jobPath j p)) _ _ (cleared n r))
+      (along (ReachesPastKept n) (reaches-same n) (reaches-then n) n (jobPath j p) (j .vehicle) (λ s s' e. crossed-past n (jobPath j p) s s') _ _ refl (cleared n r))
 
   path-by : (m : ℕ) → PathPastKept (stationCount j) p (unlessRefused m (jobPath j p) p)
   path-by zero = written-past (stations j) p
@@ -206,17 +218,19 @@ module _ (x : Run) (h : Ensured x) where
   abbrev course : Course
   course = jobCourse (x .job) (x .path) (x .reaches)
 
-  run-top : ((m : ℕ) → x .answer ≡ R.Refused m → ⊥) → (i : ℕ) → i < n → topTwoBits i (x .reachesLeft) ≡ 0
-  run-top f i l =
+  run-above : ((m : ℕ) → x .answer ≡ R.Refused m → ⊥) → (i : ℕ) → i < n → bitsAbove (x .job .vehicle) i (x .reachesLeft) ≡ 0
+  run-above f i l =
+      let v = x .job .vehicle in
+      let path = jobPath (x .job) (x .path) in
       let z : refusal ≡ 0 = no-refusal (x .answer) _ refusal (h .answered) f in
-      ap (topTwoBits i) (h .reaches ∙ ap (λ (m : ℕ). unlessRefused m (course .runs) (x .reaches)) z)
-      ∙ along SameTop top-same top-then n (jobPath (x .job) (x .path)) (crossed-top n (jobPath (x .job) (x .path))) _ _ (cleared n (x .reaches)) i
-      ∙ cleared-top n (x .reaches) i l
+      ap (bitsAbove v i) (h .reaches ∙ ap (λ (m : ℕ). unlessRefused m (course .runs) (x .reaches)) z)
+      ∙ along (SameAbove v) (above-same v) (above-then v) n path v (λ s s' e c r. crossed-above n path s s' c r v e) _ _ refl (cleared n (x .reaches)) i
+      ∙ ap (above v) (cleared-mark n (x .reaches) i l) ∙ zero-above v
 
   run-never : RunNever x
   run-never =
       record {
-        top = run-top;
+        above = run-above;
         pathPast = subst (PathPastKept n (x .path)) (sym (h .path)) (path-by (x .job) (x .path) (x .reaches) refusal);
         past = subst (ReachesPastKept n (x .reaches)) (sym (h .reaches)) (unless-refused (ReachesPastKept n (x .reaches)) refusal (course .runs) (x .reaches) (course-past (x .job) (x .path) (x .reaches)) (reaches-same n (x .reaches)));
       }

@@ -11,6 +11,8 @@ use Rattle.number.specs.Read.{pick}
 use Rattle.number.proofs.FieldCodec.{both, and}
 use Rattle.job.specs.declared.Job.{Job}
 use Rattle.job.specs.declared.Vehicle.{Vehicle}
+use Rattle.marks.specs.Count.{sixPoints, pointCount}
+use Rattle.marks.proofs.CountLaws.{every-six}
 use Rattle.job.specs.Allowed.{between}
 use Rattle.job.specs.Faults.{judge}
 use Rattle.path.specs.declared.Laid.{Laid}
@@ -25,7 +27,7 @@ use Rattle.walk.specs.Rig.{drawnStart}
 use Rattle.walk.proofs.RecordTests.{lent-call}
 use Rattle.reaches.specs.Cells.{Reaches, lengthsOf, clearedCell, cleared}
 use Rattle.reaches.proofs.CellLaws.{lengths-of}
-use Rattle.reaches.specs.Widest.{sixPoints, widestAmong, answerOf, widestLent, widestAnswer}
+use Rattle.reaches.specs.Widest.{widestAmong, answerOf, widestLent, widestAnswer}
 use Rattle.stations.specs.declared.Placing.{Placing}
 use Rattle.stations.specs.declared.PlaceAnswer.{PlaceAnswer}
 use Rattle.stations.specs.declared.PlaceAnswer.the-variants as P
@@ -35,7 +37,7 @@ use Rattle.run.specs.declared.Ran.the-variants as R
 use Rattle.run.specs.Walking.{Course, walkToEnd, stepsLeft}
 use Rattle.run.specs.Run.{finishAt, ranBy, ranOver, walkOver, runRefusal, ranAnswer, jobPath, jobCourse, RunEnsures, Runnable}
 use Rattle.run.proofs.WalkingLaws.{same-call}
-use Rattle.run.proofs.CourseLaws.{course-lengths}
+use Rattle.run.proofs.CourseLaws.{course-vehicle, course-lengths}
 use Rattle.run.proofs.OverLaws.{placed-going}
 use Rattle.run.proofs.RunLaws.{all-passed, runnable}
 use Rattle.claim.specs.DemandThree.{Turn, Chain}
@@ -67,12 +69,12 @@ not-laid x h m laid t =
     not-zero x h m (q .0) (q .1)
 
 -- the widest place of runs that were lent
-pub read-off : (n : ℕ) (path : PathRuns) (r : Reaches) → lent (callOf n path r) ≡ true → answerOf (widestAmong sixPoints n r) ≡ widestAnswer sixPoints n r
+pub read-off : (v : Vehicle) (n : ℕ) (path : PathRuns) (r : Reaches) → lent (callOf n path r) ≡ true → answerOf (widestAmong (pointCount v) n r) ≡ widestAnswer sixPoints n r
 unfolding lent widestLent widestAnswer
-read-off n path r l =
+read-off v n path r l =
     let a = both (pathLent n path) (reachesLent n (lengthsOf r)) l in
     let b = both (between 1 2001 n) (roomFor n path) (a .0) in
-    rw (and (b .0) (a .1)) refl
+    rw (and (b .0) (a .1)) (ap (λ (k : ℕ). answerOf (widestAmong k n r)) (every-six v))
 
 -- laid: the job has no fault and its path has room
 module _ (x : Run) (h : Ensured x) (n : ℕ) (laid : PathRuns) (t : LayEnsures (x .job) (x .path) (L.Stations n) laid) where
@@ -160,15 +162,19 @@ module _ (x : Run) (h : Ensured x) (n : ℕ) (laid : PathRuns) (t : LayEnsures (
       start-zero : p .walk .station ≡ 0
       start-zero = ap (λ (d : Drawn). d .station) is-placed
 
+      course-of : course .state .vehicle ≡ j .vehicle
+      course-of = course-vehicle n laid (stepsLeft n (view (p .walk))) (view (p .walk)) after ∙ ap (λ (d : Drawn). d .vehicle) is-placed
+
       -- the answer, by what the calls end with
       module _ (ts : List Turn) (o : Ended course 0 after ts) where
         answered-by : (a : Outcome) (d : Drawn) (r : Reaches) → course ≡ record { answer = a; state = d; runs = r } → ranOver n laid course ≡ ranBy n laid a d r
         answered-by a d r q = ap (ranOver n laid) q
 
-        finished-so : (a : Outcome) → course .answer ≡ a → asCall a ≡ refused 25 → ranOver n laid course ≡ R.Finished (finishAt (length ts - 1) n laid (lastRuns after ts))
+        finished-so : (a : Outcome) → course .answer ≡ a → asCall a ≡ refused 25 → ranOver n laid course ≡ R.Finished (finishAt (j .vehicle) (length ts - 1) n laid (lastRuns after ts))
         finished-so made q z =
             let s : course .state .station ≡ length ts - 1 = let c = o .count in omega (arith, c) in
-            ap (λ (a : Outcome). ranBy n laid a (course .state) (course .runs)) q ∙ ap (λ (i : ℕ). R.Finished (finishAt i n laid (course .runs))) s ∙ ap (λ (r : Reaches). R.Finished (finishAt (length ts - 1) n laid r)) (o .runs)
+            ap (λ (a : Outcome). ranBy n laid a (course .state) (course .runs)) q
+            ∙ ap (λ (v : Vehicle). R.Finished (finishAt v (course .state .station) n laid (course .runs))) course-of ∙ ap (λ (i : ℕ). R.Finished (finishAt (j .vehicle) i n laid (course .runs))) s ∙ ap (λ (r : Reaches). R.Finished (finishAt (j .vehicle) (length ts - 1) n laid r)) (o .runs)
         finished-so (refused m) q z = absurd (o .atUnit m q)
         finished-so (refusedAt m u) q z = absurd (let y : _≡_ {A = ℕ} 0 1 = cc in omega arith)
 
@@ -191,13 +197,13 @@ module _ (x : Run) (h : Ensured x) (n : ℕ) (laid : PathRuns) (t : LayEnsures (
             let b = lengths-of (λ i c. clearedCell) n (x .reaches) is-cleared in
             rw (same-call n laid a, same-call n laid b) call-lent
 
-        pub told : Told n laid (lastRuns after ts) ts (x .answer)
+        pub told : Told (j .vehicle) n laid (lastRuns after ts) ts (x .answer)
         told =
             record {
               finished = λ z. run-answer ∙ finished-so (course .answer) refl (sym (o .answer) ∙ z);
               stopped = λ m u z. run-answer ∙ stopped-so (course .answer) m u refl (sym (o .answer) ∙ z);
               only = λ m z. only-25 (course .answer) m refl (sym (o .answer) ∙ z);
-              widest = subst (λ (r : Reaches). answerOf (widestAmong sixPoints n r) ≡ widestAnswer sixPoints n r) (o .runs) (read-off n laid (course .runs) course-lent);
+              widest = subst (λ (r : Reaches). answerOf (widestAmong (pointCount (j .vehicle)) n r) ≡ widestAnswer sixPoints n r) (o .runs) (read-off (j .vehicle) n laid (course .runs) course-lent);
             }
 
       pub followed : (ts : List Turn) → Chain (p .walk) ts → Handed n laid after ts → UntilRefused ts → Followed x n laid after ts

@@ -16,7 +16,9 @@ use Rattle.unit.specs.Coupling.{hitchOffset, foldAllowed}
 use Rattle.walk.specs.Tests.{lent, stationSound, pathSound, vehicleSound, vectorSound, vectorsSound, recordSound, atLast}
 use Rattle.walk.specs.Units.{turnUnits}
 use Rattle.walk.specs.Rig.{startVectors, drawStep}
-use Rattle.points.specs.Ends.{rearEnd}
+use Rattle.marks.specs.Count.{pointCount}
+use Rattle.marks.specs.Marks.{allSet}
+use Rattle.points.specs.Ends.{unitPlaces}
 use Rattle.points.specs.Points.{pointAt, rigPoints}
 use Rattle.reaches.specs.Cells.{Reaches, reachRuns, atStations}
 use Rattle.reaches.specs.Crossing.{reachOf, crosses, crossedBy, crossedFrom}
@@ -48,5 +50,5 @@ workedRun = record {
 }
 
 pub worked-ensured : Ensured workedRun
-unfolding halfTo nearestSize nearestZ hasLength headingAllowed emptyUnits emptyElements faultOf unitsFault elementsFault vehicleFault judge fullSteps cutsFrom stepsOn stationsFrom stations placedBy turnedBy tooFar hitchOffset foldAllowed lent stationSound pathSound vehicleSound vectorSound vectorsSound recordSound atLast turnUnits startVectors drawStep rearEnd pointAt rigPoints atStations reachOf crosses crossedBy crossedFrom widestAmong walkOn runRefusal
+unfolding halfTo nearestSize nearestZ hasLength headingAllowed emptyUnits emptyElements faultOf unitsFault elementsFault vehicleFault judge fullSteps cutsFrom stepsOn stationsFrom stations placedBy turnedBy tooFar hitchOffset foldAllowed lent stationSound pathSound vehicleSound vectorSound vectorsSound recordSound atLast turnUnits startVectors drawStep unitPlaces pointCount allSet pointAt rigPoints atStations reachOf crosses crossedBy crossedFrom widestAmong walkOn runRefusal
 worked-ensured = record { answered = refl; path = refl; reaches = refl }

@@ -1,10 +1,12 @@
 -- What is never written (01, "Stations and the widest place"): "no step touches the top two bits of a mark", "Entries past the last station are never written".
-use Prim.Native.Nat.{ℕ, _/_, _<_}
+use Prim.Native.Nat.{ℕ, _<_}
 use mathlib.Core.Path.{_≡_}
 use mathlib.Core.List.{List}
 use lib.ListN.{length, getD, drop}
 use Rattle.job.specs.declared.Job.{Job}
 use Rattle.job.specs.declared.Vehicle.{Vehicle}
+use Rattle.marks.specs.Count.{pointCount}
+use Rattle.marks.specs.Marks.{bitsFrom}
 use Rattle.path.specs.declared.Laid.{Laid}
 use Rattle.path.specs.Stations.{stations}
 use Rattle.path.specs.Laying.{PathRuns, LayEnsures}
@@ -22,12 +24,9 @@ use Rattle.bogie.specs.Settings.{Rail}
 use Rattle.bogie.specs.List.{ListEnsures}
 use Rattle.claim.specs.WholeRun.{Run, Ensured}
 
--- the top two bits of a mark, which is a byte, and those of station i's
-abbrev pub topTwo : ℕ → ℕ
-topTwo mark = mark / 64
-
-abbrev pub topTwoBits : ℕ → Reaches → ℕ
-topTwoBits i r = topTwo (getD (r .marks) i 0)
+-- the bits above those of a vehicle's points, in station i's mark
+abbrev pub bitsAbove : Vehicle → ℕ → Reaches → ℕ
+bitsAbove v i r = bitsFrom (pointCount v) (getD (r .marks) i 0)
 
 -- a run whose entries from number n on are as before, and its length too
 pub record PastKept {A : Type 0} (n : ℕ) (before after : List A) : Type 0 where
@@ -49,19 +48,19 @@ pub record ReachesPastKept (n : ℕ) (before after : Reaches) : Type 0 where
 abbrev pub stationCount : Job → ℕ
 stationCount j = length (stations j)
 
--- a step call, made or refused, whatever it is handed; the path's runs are lent to it for reading alone
-pub record StepNever (c : Call) (before after : Reaches) : Type 0 where
-  pub top : (i : ℕ) → topTwoBits i after ≡ topTwoBits i before
+-- a step call of a vehicle's walk, made or refused, whatever it is handed; the path's runs are lent to it for reading alone
+pub record StepNever (v : Vehicle) (c : Call) (before after : Reaches) : Type 0 where
+  pub above : (i : ℕ) → bitsAbove v i after ≡ bitsAbove v i before
   pub past : ReachesPastKept (c .asked) before after
 
--- a placement, which clears the marks of the stations asked for, top bits and all; it too only reads the path's runs
+-- a placement, which clears the marks of the stations asked for, every bit of them; it too only reads the path's runs
 pub record PlaceNever (c : Call) (before : Reaches) (p : Placing) (after : Reaches) : Type 0 where
-  pub top : p .answer ≡ P.Placed → (i : ℕ) → i < c .asked → topTwoBits i after ≡ 0
+  pub cleared : p .answer ≡ P.Placed → (i : ℕ) → i < c .asked → getD (after .marks) i 0 ≡ 0
   pub past : ReachesPastKept (c .asked) before after
 
--- a whole job, in all seven runs; where it is not refused it clears the marks, and its steps leave their top bits so
+-- a whole job, in all seven runs; where it is not refused it clears the marks, and its steps leave the bits above its points so
 pub record RunNever (x : Run) : Type 0 where
-  pub top : ((m : ℕ) → x .answer ≡ R.Refused m → ⊥) → (i : ℕ) → i < stationCount (x .job) → topTwoBits i (x .reachesLeft) ≡ 0
+  pub above : ((m : ℕ) → x .answer ≡ R.Refused m → ⊥) → (i : ℕ) → i < stationCount (x .job) → bitsAbove (x .job .vehicle) i (x .reachesLeft) ≡ 0
   pub pathPast : PathPastKept (stationCount (x .job)) (x .path) (x .pathLeft)
   pub past : ReachesPastKept (stationCount (x .job)) (x .reaches) (x .reachesLeft)
 
@@ -69,7 +68,7 @@ pub record RunNever (x : Run) : Type 0 where
 pub record NeverWritten : Type 0 where
   pub lay : (j : Job) (before : PathRuns) (answer : Laid) (after : PathRuns) → LayEnsures j before answer after → PathPastKept (stationCount j) before after
   pub place : (v : Vehicle) (w : Walk) (c : Call) (before : Reaches) (p : Placing) (after : Reaches) → PlaceEnsures v w c before p after → PlaceNever c before p after
-  pub step : (w : Walk) (c : Call) (before : Reaches) (r : Advanced) (after : Reaches) → StepEnsures w c before r after → StepNever c before after
+  pub step : (w : Walk) (c : Call) (before : Reaches) (r : Advanced) (after : Reaches) → StepEnsures w c before r after → StepNever (w .vehicle) c before after
   pub run : (x : Run) → Ensured x → RunNever x
   -- a list of settings, with a list and with 30 alike, and refused before that
   pub list : (j : Job) (b : Rail) (p : PathRuns) (r : Reaches) (answer : Listed) (p' : PathRuns) (r' : Reaches) → ListEnsures j b p r answer p' r'

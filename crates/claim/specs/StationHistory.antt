@@ -9,6 +9,8 @@ use lib.Signed.{_≤ℤ_}
 use Rattle.number.specs.Read.{pick}
 use Rattle.plane.specs.declared.Vec2.{Vec2}
 use Rattle.job.specs.declared.Vehicle.{Vehicle}
+use Rattle.marks.specs.Count.{pointCount}
+use Rattle.marks.specs.Marks.{hasBit}
 use Rattle.path.specs.declared.Station.{Station}
 use Rattle.path.specs.Laying.{PathRuns}
 use Rattle.walk.specs.declared.Walk.{Walk}
@@ -16,8 +18,8 @@ use Rattle.walk.specs.Drawn.{Drawn, Call, stationAt, Outcome, made, refused, re
 use Rattle.walk.specs.Rig.{zeroVector, drawnStart, drawStep}
 use Rattle.reaches.specs.declared.Cell.{Cell}
 use Rattle.reaches.specs.Cells.{Reaches, cellAt, clearedCell}
-use Rattle.reaches.specs.Crossing.{reachOf, crosses, smaller, greater, hasBit}
-use Rattle.reaches.specs.Widest.{sixPoints, complete}
+use Rattle.reaches.specs.Crossing.{reachOf, crosses, smaller, greater}
+use Rattle.reaches.specs.Widest.{complete}
 use Rattle.stations.specs.declared.Placing.{Placing}
 use Rattle.stations.specs.declared.PlaceAnswer.the-variants as P
 use Rattle.stations.specs.Placing.{callOf, startHeading, PlaceEnsures}
@@ -68,17 +70,17 @@ leftOf s ms = leastOf (clearedCell .left) (entering s ms)
 abbrev pub rightOf : Station → List Moves → ℤ
 rightOf s ms = greatestOf (clearedCell .right) (entering s ms)
 
--- the whole rig has crossed it: each of the six points has
-abbrev pub AllCrossed : Station → List Moves → Type 0
-AllCrossed s ms = (p : ℕ) → p < 6 → everCrossed p s ms ≡ true
+-- the whole rig has crossed it: each of its points has, of which there are n
+abbrev pub AllCrossed : ℕ → Station → List Moves → Type 0
+AllCrossed n s ms = (p : ℕ) → p < n → everCrossed p s ms ≡ true
 
 -- a cell that tells it all: a bit for each point that crossed, the least and the greatest of what entered; where nothing did, the cleared values; it is complete just where the whole rig has crossed
-pub record Kept (s : Station) (ms : List Moves) (c : Cell) : Type 0 where
-  pub bits : (p : ℕ) → p < 6 → hasBit p (c .mark) ≡ everCrossed p s ms
+pub record Kept (n : ℕ) (s : Station) (ms : List Moves) (c : Cell) : Type 0 where
+  pub bits : (p : ℕ) → p < n → hasBit p (c .mark) ≡ everCrossed p s ms
   pub left : c .left ≡ leftOf s ms
   pub right : c .right ≡ rightOf s ms
-  pub whole : complete sixPoints c ≡ true → AllCrossed s ms
-  pub onlyWhole : AllCrossed s ms → complete sixPoints c ≡ true
+  pub whole : complete n c ≡ true → AllCrossed n s ms
+  pub onlyWhole : AllCrossed n s ms → complete n c ≡ true
 
 -- the least and the greatest of some numbers are two of them
 pub record Extremes (zs : List ℤ) (l r : ℤ) : Type 0 where
@@ -139,8 +141,8 @@ answersOf h = map (λ (t : Turn). outcomeOf (t .result .answer)) (h .turns)
 -- where any point has crossed, left and right are reaches that entered, the cleared values lying beyond them all (a vehicle has four places for units, by its type);
 -- a refused call leaves the runs that it was lent, so those of the placement stay where it was lent them; and there are such calls, refused ones between made ones
 pub record StationHistory : Type 0 where
-  pub kept : (h : History) → Lawful h → (i : ℕ) → i < h .asked → Kept (stationAt (h .path) i) (movesOf h) (cellAt i (runsOf h))
+  pub kept : (h : History) → Lawful h → (i : ℕ) → i < h .asked → Kept (pointCount (h .vehicle)) (stationAt (h .path) i) (movesOf h) (cellAt i (runsOf h))
   pub entered : (h : History) → Lawful h → length (h .vehicle .units) ≡ 4 → (i : ℕ) → i < h .asked → let s = stationAt (h .path) i in
-      (p : ℕ) → p < 6 → everCrossed p s (movesOf h) ≡ true → Extremes (entering s (movesOf h)) (leftOf s (movesOf h)) (rightOf s (movesOf h))
+      (p : ℕ) → p < pointCount (h .vehicle) → everCrossed p s (movesOf h) ≡ true → Extremes (entering s (movesOf h)) (leftOf s (movesOf h)) (rightOf s (movesOf h))
   pub refusedLeaves : (w : Walk) (t : Turn) → StepEnsures w (t .call) (t .before) (t .result) (t .after) → (outcomeOf (t .result .answer) ≡ made → ⊥) → t .after ≡ t .before
   pub someCalls : (h : History) × Lawful h × (answersOf h ≡ made ∷ refused 21 ∷ refused 26 ∷ made ∷ refused 27 ∷ refusedAt 22 1 ∷ made ∷ refused 25 ∷ [])

@@ -28,7 +28,7 @@ pub fn whole_run()
     ensures { λ _. ⌜ WholeRun ⌝ }
 {}
 
-// Claim: no step call touches the top two bits of a mark, which placement and a run clear; laying, placing, stepping and a run write no entry past the stations asked for, and every run keeps its length.
+// Claim: no step call touches the bits of a mark above those of the rig's points, which placement and a run clear; laying, placing, stepping and a run write no entry past the stations asked for, and every run keeps its length.
 pub fn never_written()
     ensures { λ _. ⌜ NeverWritten ⌝ }
 {}

@@ -16,7 +16,9 @@ use Rattle.unit.specs.Coupling.{hitchOffset, foldAllowed}
 use Rattle.walk.specs.Tests.{lent, stationSound, pathSound, vehicleSound, vectorSound, vectorsSound, recordSound, atLast}
 use Rattle.walk.specs.Units.{turnUnits}
 use Rattle.walk.specs.Rig.{startVectors, drawStep}
-use Rattle.points.specs.Ends.{rearEnd}
+use Rattle.marks.specs.Count.{pointCount}
+use Rattle.marks.specs.Marks.{allSet}
+use Rattle.points.specs.Ends.{unitPlaces}
 use Rattle.points.specs.Points.{pointAt, rigPoints}
 use Rattle.reaches.specs.Cells.{atStations}
 use Rattle.reaches.specs.Crossing.{reachOf, crosses, crossedBy, crossedFrom}
@@ -28,7 +30,7 @@ _and_ : {A B : Type 0} → A → B → A × B
 a and b = (a, b)
 
 pub convention-rows : Conventions
-unfolding halfTo nearestSize nearestZ hasLength many groups readNumber field signedNumber signedField headingAllowed emptyUnits emptyElements faultOf unitsFault elementsFault vehicleFault judge readUnit readUnits readWidths readVehicle readStart readElement readElements readPath readRecord readJob placedBy turnedBy tooFar hitchOffset foldAllowed lent stationSound pathSound vehicleSound vectorSound vectorsSound recordSound atLast turnUnits startVectors drawStep rearEnd pointAt rigPoints atStations reachOf crosses crossedBy crossedFrom placeRefusal
+unfolding halfTo nearestSize nearestZ hasLength many groups readNumber field signedNumber signedField headingAllowed emptyUnits emptyElements faultOf unitsFault elementsFault vehicleFault judge readUnit readUnits readWidths readVehicle readStart readElement readElements readPath readRecord readJob placedBy turnedBy tooFar hitchOffset foldAllowed lent stationSound pathSound vehicleSound vectorSound vectorsSound recordSound atLast turnUnits startVectors drawStep unitPlaces pointCount allSet pointAt rigPoints atStations reachOf crosses crossedBy crossedFrom placeRefusal
 convention-rows = record {
   count = refl;
   hold =

@@ -11,6 +11,11 @@ pub every-six : (v : Vehicle) → pointCount v ≡ sixPoints
 unfolding pointCount
 every-six v = refl
 
+-- it hangs on the number of units alone
+pub same-count : (v w : Vehicle) → v .count ≡ w .count → pointCount v ≡ pointCount w
+unfolding pointCount
+same-count v w e = refl
+
 -- the points of a vehicle that fits its own array of units fit theirs
 pub count-fits : (v : Vehicle) → v .count ≤ 4 → pointCount v ≤ pointCapacity
 unfolding pointCount

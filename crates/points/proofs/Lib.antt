@@ -1,5 +1,6 @@
 pub mod Filling
 pub mod EndLaws
+pub mod TableLaws
 pub mod PointLaws
 pub mod SoundRig
 pub mod Witnesses

@@ -1,8 +1,11 @@
 -- The sizes of the measures and of the points.
-use Prim.Native.Nat.{ℕ, zero, suc, zero-le}
+use Prim.Native.Nat.{ℕ, zero, suc, zero-le, _-_, _≤_, _<_}
+use mathlib.Core.Path.{_≡_, _∙_, ap}
 use mathlib.Core.List.{List, [], _∷_, map}
+use native.Mathlib.Omega.{arith}
 use lib.Dec.{lit≤}
-use lib.ListN.{getD}
+use lib.ListN.{length, take, getD, length-take, length-map}
+use lib.Seq.{sets, getD-take}
 use lib.IntN.{ℤ, pos, negℤ, _+ℤ_, _*ℤ_}
 use lib.Signed.{_≤ℤ_}
 use Rattle.exact.specs.Size.{Within}
@@ -18,33 +21,41 @@ use Rattle.job.specs.declared.Side.the-variants.{Left, Right}
 use Rattle.job.specs.declared.Vehicle.{Vehicle}
 use Rattle.unit.proofs.UnitSizes.{wheelbase-positive, near-coordinates}
 use Rattle.walk.specs.Rig.{zeroVector}
+use Rattle.marks.specs.Count.{pointCount}
+use Rattle.marks.proofs.CountLaws.{count-fits}
+use Rattle.points.specs.declared.UnitPlace.{UnitPlace}
 use Rattle.points.specs.declared.End.{End}
-use Rattle.points.specs.declared.Base.{Base}
-use Rattle.points.specs.declared.Base.the-variants.{Front, Rear}
-use Rattle.points.specs.declared.Along.{Along}
-use Rattle.points.specs.declared.Along.the-variants.{Overhang, Nothing}
-use Rattle.points.specs.declared.Row.{Row}
-use Rattle.points.specs.Points.{alongOf, halfWidth, sideOf, endOf, offsetFrom, pointAt, rigPoints, pointRows}
-use Rattle.points.specs.Requires.{PlaceSized, BodySized, RigAt, EndSized, OffsetSized}
-use Rattle.points.proofs.EndLaws.{place-more, front-sized, rear-sized}
+use Rattle.points.specs.declared.table.Base.{Base}
+use Rattle.points.specs.declared.table.Base.the-variants.{Front, LastRear}
+use Rattle.points.specs.declared.table.Along.{Along}
+use Rattle.points.specs.declared.table.Along.the-variants.{Overhang, Nothing}
+use Rattle.points.specs.declared.table.Width.{Width}
+use Rattle.points.specs.declared.table.Width.the-variants.{FrontHalf, RearHalf}
+use Rattle.points.specs.declared.table.Row.{Row}
+use Rattle.points.specs.Ends.{noPlace, noPlaces, placesOf, frontEnd, rearEnd}
+use Rattle.points.specs.Points.{rowAt, alongOf, halfWidth, sideOf, endOf, offsetFrom, pointAt, rigPoints, pointRows, noPoints}
+use Rattle.points.specs.Requires.{PlaceSized, BodySized, RigAt, UnitsSized, EndSized, BaseInUse, OffsetSized}
+use Rattle.points.proofs.EndLaws.{place-more, places-fit, units-sized}
+use Rattle.points.proofs.TableLaws.{rows-taken, row-in-use}
+use Rattle.points.proofs.Filling.{taken-back, padded}
 
 -- what the selectors of a row pick
 pub along-sized : {v : Vehicle} → BodySized v → (a : Along) → Within 50000 (alongOf v a)
 along-sized b Overhang = record { size = b .overhang }
 along-sized b Nothing = record { size = lit≤ tt }
 
-pub width-sized : {v : Vehicle} → BodySized v → (b : Base) → Within 20000 (halfWidth v b)
-width-sized b Front = record { size = b .frontHalfWidth }
-width-sized b Rear = record { size = b .rearHalfWidth }
+pub width-sized : {v : Vehicle} → BodySized v → (w : Width) → Within 20000 (halfWidth v w)
+width-sized b FrontHalf = record { size = b .frontHalfWidth }
+width-sized b RearHalf = record { size = b .rearHalfWidth }
 
 -- with either sign
 pub side-sized : {w : ℤ} (s : Side) → Within 20000 w → Within 20000 (sideOf s w)
 side-sized Left p = search (p, within-neg p)
 side-sized Right p = search (p, within-neg p)
 
-pub end-sized : {f r : End} (b : Base) → EndSized f → EndSized r → EndSized (endOf b f r)
-end-sized Front p q = p
-end-sized Rear p q = q
+pub end-sized : {v : Vehicle} {ps : List UnitPlace} (b : Base) → BaseInUse v b → UnitsSized v ps → EndSized (endOf v ps b)
+end-sized (Front i) u p = let s = p .units i (u .unit) in record { place = s .front; wheelbase = s .wheelbase; vector = s .vector }
+end-sized {v} LastRear u p = let s = p .units (v .count - 1) (u .unit) in record { place = s .rear; wheelbase = s .wheelbase; vector = s .vector }
 
 -- a coordinate of an offset: x and y are no larger than l
 module _ (x y l a s : ℤ) (l1 : pos 1 ≤ℤ l) (xLow : negℤ l ≤ℤ x) (xHigh : x ≤ℤ l) (yLow : negℤ l ≤ℤ y) (yHigh : y ≤ℤ l) (along : Within 50000 a) (side : Within 20000 s) where
@@ -104,24 +115,65 @@ offset-sized {e} {a} {s} p =
     }
 
 -- a row's offset is in range
-pub row-asked : {v : Vehicle} {f r : End} (w : Row) → BodySized v → EndSized f → EndSized r
-    → OffsetSized (endOf (w .base) f r) (alongOf v (w .along)) (sideOf (w .side) (halfWidth v (w .base)))
-row-asked w b f r = record { end = end-sized (w .base) f r; along = along-sized b (w .along); side = side-sized (w .side) (width-sized b (w .base)) }
+pub row-asked : {v : Vehicle} {ps : List UnitPlace} (w : Row) → BaseInUse v (w .base) → BodySized v → UnitsSized v ps
+    → OffsetSized (endOf v ps (w .base)) (alongOf v (w .along)) (sideOf (w .side) (halfWidth v (w .width)))
+row-asked w u b p = record { end = end-sized (w .base) u p; along = along-sized b (w .along); side = side-sized (w .side) (width-sized b (w .width)) }
 
 -- every point of a rig at a station lies within 160,000,000
-point-sized : {v : Vehicle} {f r : End} (w : Row) → BodySized v → EndSized f → EndSized r → PlaceSized 160000000 (pointAt v f r w)
+point-sized : {v : Vehicle} {ps : List UnitPlace} (w : Row) → BaseInUse v (w .base) → BodySized v → UnitsSized v ps → PlaceSized 160000000 (pointAt v ps w)
 unfolding pointAt
-point-sized w b f r =
-    let o = row-asked w b f r in
-    let p = o .end .place in
+point-sized w u b p =
+    let o = row-asked w u b p in
+    let e = o .end .place in
     let q = offset-sized o in
-    place-more (lit≤ tt) (record { x = within-add (p .x) (q .x); y = within-add (p .y) (q .y) })
+    place-more (lit≤ tt) (record { x = within-add (e .x) (q .x); y = within-add (e .y) (q .y) })
 
-mapped-sized : {A : Type 0} (b : ℕ) (g : A → Vec2) (xs : List A) → ((x : A) → PlaceSized b (g x)) → (k : ℕ) → PlaceSized b (getD (map g xs) k zeroVector)
-mapped-sized b g [] h k = record { x = record { size = zero-le }; y = record { size = zero-le } }
-mapped-sized b g (x ∷ xs) h zero = h x
-mapped-sized b g (x ∷ xs) h (suc k) = mapped-sized b g xs h k
+mapped-sized : {A : Type 0} (b : ℕ) (g : A → Vec2) (xs : List A) (z : A) → ((k : ℕ) → k < length xs → PlaceSized b (g (getD xs k z))) → (k : ℕ) → PlaceSized b (getD (map g xs) k zeroVector)
+mapped-sized b g [] z h k = record { x = record { size = zero-le }; y = record { size = zero-le } }
+mapped-sized b g (x ∷ xs) z h zero = h 0 (omega arith)
+mapped-sized b g (x ∷ xs) z h (suc k) = mapped-sized b g xs z (λ i l. h (suc i) (omega arith)) k
+
+-- as many points as the vehicle has
+module _ (v : Vehicle) (m : v .count ≤ 4) where
+  pub points-count : (ds : List Vec2) (f : Vec2) → length (rigPoints v ds f) ≡ pointCount v
+  unfolding rigPoints
+  points-count ds f = length-map (take (pointCount v) pointRows) (pointAt v (placesOf v ds f)) ∙ rows-taken v m
+
+  -- the array of the points holds them first
+  pub points-taken : (ds : List Vec2) (f : Vec2) → take (pointCount v) (sets noPoints 0 (rigPoints v ds f)) ≡ rigPoints v ds f
+  points-taken ds f = taken-back noPoints (rigPoints v ds f) (pointCount v) (points-count ds f) (count-fits v m)
+
+-- of any vehicle, no more than it has
+pub points-at-most : (v : Vehicle) (ds : List Vec2) (f : Vec2) → length (rigPoints v ds f) ≤ pointCount v
+unfolding rigPoints
+points-at-most v ds f = omega (arith, length-map (take (pointCount v) pointRows) (pointAt v (placesOf v ds f)), length-take (pointCount v) pointRows)
 
 pub points-sized : {v : Vehicle} {ds : List Vec2} {f : Vec2} → RigAt v ds f → (k : ℕ) → PlaceSized 160000000 (getD (rigPoints v ds f) k zeroVector)
 unfolding rigPoints
-points-sized a k = mapped-sized 160000000 _ pointRows (λ w. point-sized w (a .body) (front-sized a) (rear-sized a)) k
+points-sized {v} {ds} {f} a = mapped-sized 160000000 _ (take (pointCount v) pointRows) (rowAt 0) (λ k h. by k (omega (arith, rows-taken v (a .rig .most))))
+  where
+    by : (k : ℕ) → k < pointCount v → PlaceSized 160000000 (pointAt v (placesOf v ds f) (getD (take (pointCount v) pointRows) k (rowAt 0)))
+    by k h = rw (getD-take (pointCount v) pointRows k (rowAt 0) h) (point-sized (rowAt k) (row-in-use v (a .rig .least) (a .rig .most) k h) (a .body) (units-sized a))
+
+-- the same from the array of the units' places
+module _ {v : Vehicle} {ds : List Vec2} {f : Vec2} (a : RigAt v ds f) where
+  abbrev places : List UnitPlace
+  places = sets noPlaces 0 (placesOf v ds f)
+
+  place-same : (i : ℕ) → getD places i noPlace ≡ getD (placesOf v ds f) i noPlace
+  place-same = padded 4 noPlace (placesOf v ds f) (places-fit a)
+
+  pub array-sized : UnitsSized v places
+  array-sized = let s = units-sized a in record { least = s .least; most = s .most; units = λ i h. rw (place-same i) (s .units i h) }
+
+  end-same : (b : Base) → endOf v places b ≡ endOf v (placesOf v ds f) b
+  end-same (Front i) = ap frontEnd (place-same i)
+  end-same LastRear = ap rearEnd (place-same (v .count - 1))
+
+  point-same : (r : Row) → pointAt v places r ≡ pointAt v (placesOf v ds f) r
+  unfolding pointAt
+  point-same r = rw (end-same (r .base))
+
+  pub array-points : map (pointAt v places) (take (pointCount v) pointRows) ≡ rigPoints v ds f
+  unfolding rigPoints
+  array-points = λ j. map (λ r. point-same r j) (take (pointCount v) pointRows)

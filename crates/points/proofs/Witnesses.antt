@@ -1,9 +1,10 @@
 -- Each requirement of this crate can be met, at the ends of its ranges too.
-use Prim.Native.Nat.{ℕ, zero, suc, _<_}
+use Prim.Native.Nat.{ℕ, zero, suc, _-_, _<_}
 use mathlib.Core.List.{List, [], _∷_}
 use native.Mathlib.Omega.{arith}
 use lib.Dec.{lit≤}
 use lib.ListN.{getD}
+use lib.Seq.{sets}
 use lib.IntN.{ℤ, pos, negsuc}
 use lib.Signed.{leZ-yes}
 use Rattle.exact.specs.Size.{Within}
@@ -12,10 +13,16 @@ use Rattle.job.specs.declared.Unit.{Unit as VehicleUnit}
 use Rattle.job.specs.declared.Vehicle.{Vehicle}
 use Rattle.job.specs.Empty.{emptyUnit}
 use Rattle.walk.specs.Rig.{zeroVector}
-use Rattle.walk.specs.Inner.{UnitDrawn, RigReady}
-use Rattle.points.specs.Ends.{frontOf, rearOf}
-use Rattle.points.specs.Requires.{PlaceSized, BodySized, RigAt, EndSized, OffsetSized, Measured}
-use Rattle.points.proofs.EndLaws.{front-sized, rear-sized}
+use Rattle.walk.specs.Inner.{UnitDrawn, HitchReady, RigReady}
+use Rattle.marks.specs.Count.{pointCount}
+use Rattle.marks.proofs.CountLaws.{some-point}
+use Rattle.points.specs.declared.table.Base.the-variants.{Front, LastRear}
+use Rattle.points.specs.Ends.{noPlaces, placesOf}
+use Rattle.points.specs.Points.{rowAt, endOf}
+use Rattle.points.specs.Requires.{PlaceSized, BodySized, RigAt, UnitsSized, EndSized, BaseInUse, OffsetSized, Measured}
+use Rattle.points.proofs.EndLaws.{units-sized}
+use Rattle.points.proofs.TableLaws.{row-in-use}
+use Rattle.points.proofs.PointLaws.{end-sized, array-sized}
 
 abbrev vec : ℤ → ℤ → Vec2
 vec a b = record { x = a; y = b }
@@ -73,14 +80,28 @@ rig-met = record { least = lit≤ tt; most = lit≤ tt; units = units-met }
 at-met : RigAt rig vectors corner
 at-met = record { rig = rig-met; body = body-met; front = corner-met }
 
-end-met : EndSized (rearOf rig vectors corner)
-end-met = rear-sized at-met
+units-sized-met : UnitsSized rig (placesOf rig vectors corner)
+units-sized-met = units-sized at-met
+
+hitch-met : HitchReady long corner (vec (pos 0) (pos 200000))
+hitch-met = record { unit = long-met; place = record { x = record { size = lit≤ tt }; y = record { size = lit≤ tt } } }
+
+-- the last of four units, and the first
+last-met : BaseInUse rig LastRear
+last-met = record { most = lit≤ tt; unit = lit≤ tt }
+
+first-met : BaseInUse rig (Front 0)
+first-met = record { most = lit≤ tt; unit = lit≤ tt }
+
+end-met : EndSized (endOf rig (placesOf rig vectors corner) LastRear)
+end-met = end-sized LastRear last-met units-sized-met
 
 width-met : Within 20000 (pos 20000)
 width-met = record { size = lit≤ tt }
 
-offset-met : OffsetSized (rearOf rig vectors corner) (pos 50000) (negsuc 19999)
+offset-met : OffsetSized (endOf rig (placesOf rig vectors corner) LastRear) (pos 50000) (negsuc 19999)
 offset-met = record { end = end-met; along = record { size = lit≤ tt }; side = record { size = lit≤ tt } }
 
-measured-met : Measured rig (frontOf rig vectors corner) (rearOf rig vectors corner) 5
-measured-met = record { front = front-sized at-met; rear = end-met; body = body-met; number = lit≤ tt }
+-- the last row
+measured-met : Measured rig (sets noPlaces 0 (placesOf rig vectors corner)) (rowAt (pointCount rig - 1))
+measured-met = record { rig = array-sized at-met; body = body-met; base = row-in-use rig (lit≤ tt) (lit≤ tt) (pointCount rig - 1) (omega (arith, some-point rig)) }

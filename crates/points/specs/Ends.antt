@@ -1,40 +1,40 @@
--- The two ends of a rig that its points are measured from (01, "Stations and the widest place": F of unit 1, R of the last unit).
+-- Where the units of a rig stand, and the ends of a unit that points are measured from (01, "Stations and the widest place": F and R of a unit).
 use mathlib.Core.List.{List, [], _∷_}
-use lib.ListN.{getD}
+use lib.ListN.{replicate}
 use lib.IntN.{pos}
 use Rattle.plane.specs.declared.Vec2.{Vec2}
 use Rattle.job.specs.declared.Unit.{Unit as VehicleUnit}
 use Rattle.job.specs.declared.Vehicle.{Vehicle}
-use Rattle.job.specs.Empty.{emptyUnit}
 use Rattle.walk.specs.Tests.{unitsInUse}
 use Rattle.walk.specs.Units.{wheelbaseOf, rearAxle, hitchAt}
 use Rattle.walk.specs.Rig.{zeroVector}
+use Rattle.points.specs.declared.UnitPlace.{UnitPlace}
 use Rattle.points.specs.declared.End.{End}
 
--- an end is a place with the vector and wheelbase of its unit; a rig without units, or with too few vectors, has none
-abbrev pub noEnd : End
-noEnd = record { place = zeroVector; d = zeroVector; wheelbase = pos 0 }
+-- a unit with its front point F: the rear axle R lies its vector d behind F
+abbrev pub placeOf : VehicleUnit → Vec2 → Vec2 → UnitPlace
+placeOf u d front = record { front = front; rear = rearAxle front d; d = d; wheelbase = wheelbaseOf u }
 
--- F of unit 1
-abbrev pub frontEnd : List VehicleUnit → List Vec2 → Vec2 → End
-frontEnd us ds front = record { place = front; d = getD ds 0 zeroVector; wheelbase = wheelbaseOf (getD us 0 emptyUnit) }
-
--- R of the last unit, hitch by hitch from the front point of the first
-abbrev pub lastOr : List VehicleUnit → End → End → End
-lastOr [] here further = here
-lastOr (u ∷ us) here further = further
-
-unfoldable pub rearEnd : List VehicleUnit → List Vec2 → Vec2 → End
-rearEnd [] ds front = noEnd
-rearEnd (u ∷ us) [] front = noEnd
-rearEnd (u ∷ us) (d ∷ ds) front =
-    lastOr us
-    (record { place = rearAxle front d; d = d; wheelbase = wheelbaseOf u })
-    (rearEnd us ds (hitchAt u front d))
+-- unit by unit: F of the first is given, F of a later one is the hitch ahead
+unfoldable pub unitPlaces : List VehicleUnit → List Vec2 → Vec2 → List UnitPlace
+unitPlaces [] ds front = []
+unitPlaces (u ∷ us) [] front = []
+unitPlaces (u ∷ us) (d ∷ ds) front = placeOf u d front ∷ unitPlaces us ds (hitchAt u front d)
 
 -- the same of a vehicle: its units in use
-abbrev pub frontOf : Vehicle → List Vec2 → Vec2 → End
-frontOf v ds front = frontEnd (unitsInUse v) ds front
+abbrev pub placesOf : Vehicle → List Vec2 → Vec2 → List UnitPlace
+placesOf v ds front = unitPlaces (unitsInUse v) ds front
 
-abbrev pub rearOf : Vehicle → List Vec2 → Vec2 → End
-rearOf v ds front = rearEnd (unitsInUse v) ds front
+-- a unit that is not in use stands nowhere
+abbrev pub noPlace : UnitPlace
+noPlace = record { front = zeroVector; rear = zeroVector; d = zeroVector; wheelbase = pos 0 }
+
+abbrev pub noPlaces : List UnitPlace
+noPlaces = replicate 4 noPlace
+
+-- an end is F or R of a unit, with the unit's vector and wheelbase
+abbrev pub frontEnd : UnitPlace → End
+frontEnd p = record { place = p .front; d = p .d; wheelbase = p .wheelbase }
+
+abbrev pub rearEnd : UnitPlace → End
+rearEnd p = record { place = p .rear; d = p .d; wheelbase = p .wheelbase }

@@ -1,7 +1,7 @@
--- The six points of a rig (01, "Stations and the widest place"), as the table numbers them.
-use Prim.Native.Nat.{ℕ}
+-- The points of a rig (01, "Stations and the widest place"), as the table numbers them.
+use Prim.Native.Nat.{ℕ, _-_}
 use mathlib.Core.List.{List, [], _∷_, map}
-use lib.ListN.{getD}
+use lib.ListN.{getD, take, replicate}
 use lib.IntN.{ℤ, pos, negℤ}
 use Rattle.plane.specs.declared.Vec2.{Vec2}
 use Rattle.plane.specs.Vector.{plus, times, rightNormal, nearestV}
@@ -9,57 +9,66 @@ use Rattle.job.specs.declared.Side.{Side}
 use Rattle.job.specs.declared.Side.the-variants.{Left, Right}
 use Rattle.job.specs.declared.Vehicle.{Vehicle}
 use Rattle.walk.specs.Drawn.{Drawn}
+use Rattle.walk.specs.Rig.{zeroVector}
+use Rattle.marks.specs.Count.{pointCount, pointCapacity}
+use Rattle.points.specs.declared.UnitPlace.{UnitPlace}
 use Rattle.points.specs.declared.End.{End}
-use Rattle.points.specs.declared.Base.{Base}
-use Rattle.points.specs.declared.Base.the-variants.{Front, Rear}
-use Rattle.points.specs.declared.Along.{Along}
-use Rattle.points.specs.declared.Along.the-variants.{Overhang, Nothing}
-use Rattle.points.specs.declared.Row.{Row}
-use Rattle.points.specs.Ends.{frontOf, rearOf}
+use Rattle.points.specs.declared.table.Base.{Base}
+use Rattle.points.specs.declared.table.Base.the-variants.{Front, LastRear}
+use Rattle.points.specs.declared.table.Along.{Along}
+use Rattle.points.specs.declared.table.Along.the-variants.{Overhang, Nothing}
+use Rattle.points.specs.declared.table.Width.{Width}
+use Rattle.points.specs.declared.table.Width.the-variants.{FrontHalf, RearHalf}
+use Rattle.points.specs.declared.table.Row.{Row}
+use Rattle.points.specs.Ends.{noPlace, placesOf, frontEnd, rearEnd}
 
-abbrev pub row : Base → Along → Side → Row
-row b a s = record { base = b; along = a; side = s }
+abbrev pub row : Base → Along → Side → Width → Row
+row b a s w = record { base = b; along = a; side = s; width = w }
 
--- no. 0 to 5: base, "along" ahead of it, "side" to the left (−) or the right (+)
+-- no. 0 to 5: base, "along" ahead of it, "side" to the left (−) or the right (+) by a half width; unit 1 of the paper is unit 0 here
 abbrev pub pointRows : List Row
 pointRows =
-    row Front Overhang Left ∷ row Front Overhang Right
-    ∷ row Front Nothing Left ∷ row Front Nothing Right
-    ∷ row Rear Nothing Left ∷ row Rear Nothing Right ∷ []
+    row (Front 0) Overhang Left FrontHalf ∷ row (Front 0) Overhang Right FrontHalf
+    ∷ row (Front 0) Nothing Left FrontHalf ∷ row (Front 0) Nothing Right FrontHalf
+    ∷ row LastRear Nothing Left RearHalf ∷ row LastRear Nothing Right RearHalf ∷ []
 
 -- the row of point k
 abbrev pub rowAt : ℕ → Row
-rowAt k = getD pointRows k (row Front Overhang Left)
+rowAt k = getD pointRows k (row (Front 0) Overhang Left FrontHalf)
 
--- the front half width at the front, the rear half width at the rear
-abbrev pub halfWidth : Vehicle → Base → ℤ
-halfWidth v Front = pos (v .«front_half_width»)
-halfWidth v Rear = pos (v .«rear_half_width»)
-
-abbrev pub sideOf : Side → ℤ → ℤ
-sideOf Left w = negℤ w
-sideOf Right w = w
+-- "F of unit 1", "R of last unit"
+abbrev pub endOf : Vehicle → List UnitPlace → Base → End
+endOf v ps (Front i) = frontEnd (getD ps i noPlace)
+endOf v ps LastRear = rearEnd (getD ps (v .count - 1) noPlace)
 
 abbrev pub alongOf : Vehicle → Along → ℤ
 alongOf v Overhang = pos (v .overhang)
 alongOf v Nothing = pos 0
 
-abbrev pub endOf : Base → End → End → End
-endOf Front front rear = front
-endOf Rear front rear = rear
+abbrev pub halfWidth : Vehicle → Width → ℤ
+halfWidth v FrontHalf = pos (v .«front_half_width»)
+halfWidth v RearHalf = pos (v .«rear_half_width»)
+
+abbrev pub sideOf : Side → ℤ → ℤ
+sideOf Left w = negℤ w
+sideOf Right w = w
 
 -- "A point is base + nearest (along × d + side × right normal of d) / L"
 abbrev pub offsetFrom : End → ℤ → ℤ → Vec2
 offsetFrom e along side = nearestV (plus (times (e .d) along) (times (rightNormal (e .d)) side)) (e .wheelbase)
 
-unfoldable pub pointAt : Vehicle → End → End → Row → Vec2
-pointAt v front rear r =
-    let e = endOf (r .base) front rear in
-    plus (e .place) (offsetFrom e (alongOf v (r .along)) (sideOf (r .side) (halfWidth v (r .base))))
+unfoldable pub pointAt : Vehicle → List UnitPlace → Row → Vec2
+pointAt v ps r =
+    let e = endOf v ps (r .base) in
+    plus (e .place) (offsetFrom e (alongOf v (r .along)) (sideOf (r .side) (halfWidth v (r .width))))
 
--- the points of a rig whose first front point lies at `front`
+-- the points of a rig whose first front point lies at `front`: the first rows of the table, as many as the vehicle has points
 unfoldable pub rigPoints : Vehicle → List Vec2 → Vec2 → List Vec2
-rigPoints v ds front = map (pointAt v (frontOf v ds front) (rearOf v ds front)) pointRows
+rigPoints v ds front = map (pointAt v (placesOf v ds front)) (take (pointCount v) pointRows)
 
 abbrev pub pointsOf : Drawn → Vec2 → List Vec2
 pointsOf s front = rigPoints (s .vehicle) (s .vectors) front
+
+-- an array of points without any
+abbrev pub noPoints : List Vec2
+noPoints = replicate pointCapacity zeroVector

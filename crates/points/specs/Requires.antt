@@ -1,7 +1,7 @@
 -- What the functions of this crate require of their callers: a rig as the walk's tests let it pass (01, "Why a walk is turned down", 26 and 27).
-use Prim.Native.Nat.{ℕ, _≤_, _<_}
+use Prim.Native.Nat.{ℕ, _-_, _≤_, _<_}
 use mathlib.Core.List.{List}
-use lib.ListN.{length}
+use lib.ListN.{getD}
 use lib.IntN.{ℤ, pos, _*ℤ_}
 use Rattle.exact.specs.Size.{Within}
 use Rattle.plane.specs.declared.Vec2.{Vec2}
@@ -9,8 +9,12 @@ use Rattle.plane.specs.Length.{Near}
 use Rattle.job.specs.declared.Vehicle.{Vehicle}
 use Rattle.unit.specs.Turn.{Wheelbase}
 use Rattle.walk.specs.Inner.{RigReady}
+use Rattle.points.specs.declared.UnitPlace.{UnitPlace}
 use Rattle.points.specs.declared.End.{End}
-use Rattle.points.specs.Points.{pointRows}
+use Rattle.points.specs.declared.table.Base.{Base}
+use Rattle.points.specs.declared.table.Base.the-variants.{Front, LastRear}
+use Rattle.points.specs.declared.table.Row.{Row}
+use Rattle.points.specs.Ends.{noPlace}
 
 -- the size of a place: coordinates up to b
 pub record PlaceSized (b : ℕ) (p : Vec2) : Type 0 where
@@ -29,11 +33,34 @@ pub record RigAt (v : Vehicle) (ds : List Vec2) (f : Vec2) : Type 0 where
   pub body : BodySized v
   pub front : PlaceSized 150000000 f
 
--- an end of a rig at a station
+-- a unit of a rig at a station
+pub record UnitSized (p : UnitPlace) : Type 0 where
+  pub front : PlaceSized 152000000 (p .front)
+  pub rear : PlaceSized 152000000 (p .rear)
+  pub wheelbase : Wheelbase (p .wheelbase)
+  pub vector : Near (p .d) (p .wheelbase) (pos 2 *ℤ p .wheelbase)
+
+-- the units in use of a rig at a station
+pub record UnitsSized (v : Vehicle) (ps : List UnitPlace) : Type 0 where
+  pub least : 1 ≤ v .count
+  pub most : v .count ≤ 4
+  pub units : (i : ℕ) → i < v .count → UnitSized (getD ps i noPlace)
+
+-- an end of such a unit
 pub record EndSized (e : End) : Type 0 where
   pub place : PlaceSized 152000000 (e .place)
   pub wheelbase : Wheelbase (e .wheelbase)
   pub vector : Near (e .d) (e .wheelbase) (pos 2 *ℤ e .wheelbase)
+
+-- the unit that a base names
+abbrev pub unitOf : Vehicle → Base → ℕ
+unitOf v (Front i) = i
+unitOf v LastRear = v .count - 1
+
+-- a base whose unit is in use
+pub record BaseInUse (v : Vehicle) (b : Base) : Type 0 where
+  pub most : v .count ≤ 4
+  pub unit : unitOf v b < v .count
 
 -- a point a ahead of an end and s to its right
 pub record OffsetSized (e : End) (a s : ℤ) : Type 0 where
@@ -41,9 +68,8 @@ pub record OffsetSized (e : End) (a s : ℤ) : Type 0 where
   pub along : Within 50000 a
   pub side : Within 20000 s
 
--- point k of a vehicle, measured from its ends f and r
-pub record Measured (v : Vehicle) (f r : End) (k : ℕ) : Type 0 where
-  pub front : EndSized f
-  pub rear : EndSized r
+-- a row of the table for a vehicle whose units stand at ps
+pub record Measured (v : Vehicle) (ps : List UnitPlace) (r : Row) : Type 0 where
+  pub rig : UnitsSized v ps
   pub body : BodySized v
-  pub number : k < length pointRows
+  pub base : BaseInUse v (r .base)

@@ -1,118 +1,117 @@
 // The points of a rig that are measured at the stations.
+mod table;
+
+use crate::table::Along;
+use crate::table::Base;
+use crate::table::ROWS;
+use crate::table::Row;
+use crate::table::Width;
 use job::Side;
+use job::Unit;
 use job::Vehicle;
 use plane::Vec2;
 ghost use mathlib.Core.Path.{_≡_};
+ghost use lib.Seq.{sets};
 ghost use Rattle.exact.specs.Size.{Within};
-ghost use Rattle.points.specs.Ends.{frontOf, rearOf};
-ghost use Rattle.points.specs.Points.{rowAt, pointAt, endOf, alongOf, halfWidth, sideOf, offsetFrom, rigPoints};
-ghost use Rattle.points.specs.Requires.{RigAt, OffsetSized, Measured};
+ghost use Rattle.walk.specs.Inner.{HitchReady};
+ghost use Rattle.points.specs.Ends.{placeOf, noPlaces, placesOf, frontEnd, rearEnd};
+ghost use Rattle.points.specs.Points.{pointAt, endOf, alongOf, halfWidth, sideOf, offsetFrom, noPoints, rigPoints};
+ghost use Rattle.points.specs.Requires.{RigAt, BaseInUse, OffsetSized, Measured};
 ghost use Rattle.points.specs.Worked.{WorkedPoints};
 
-// An end of the rig that points are measured from, with the vector and the wheelbase of its unit.
+// Where a unit stands: its front point and its rear axle, with its vector and its wheelbase.
+pub struct UnitPlace {
+    pub front: Vec2,
+    pub rear: Vec2,
+    pub d: Vec2,
+    pub wheelbase: i64,
+}
+
+// An end of a unit that points are measured from, with the vector and the wheelbase of the unit.
 pub struct End {
     pub place: Vec2,
     pub d: Vec2,
     pub wheelbase: i64,
 }
 
-// Where a point is measured from: the front point of the first unit, or the rear axle of the last.
-pub enum Base {
-    Front,
-    Rear,
-}
+// A unit that is not in use stands nowhere.
+const NO_PLACE: UnitPlace = UnitPlace {
+    front: Vec2 { x: 0, y: 0 },
+    rear: Vec2 { x: 0, y: 0 },
+    d: Vec2 { x: 0, y: 0 },
+    wheelbase: 0,
+};
 
-// How far ahead of its base a point lies.
-pub enum Along {
-    Overhang,
-    Nothing,
-}
-
-// A row of the table of points.
-pub struct Row {
-    pub base: Base,
-    pub along: Along,
-    pub side: Side,
-}
-
-pub const POINT_COUNT: usize = 6;
-
-// The points by number.
-const ROWS: [Row; POINT_COUNT] = [
-    Row {
-        base: Base::Front,
-        along: Along::Overhang,
-        side: Side::Left,
-    },
-    Row {
-        base: Base::Front,
-        along: Along::Overhang,
-        side: Side::Right,
-    },
-    Row {
-        base: Base::Front,
-        along: Along::Nothing,
-        side: Side::Left,
-    },
-    Row {
-        base: Base::Front,
-        along: Along::Nothing,
-        side: Side::Right,
-    },
-    Row {
-        base: Base::Rear,
-        along: Along::Nothing,
-        side: Side::Left,
-    },
-    Row {
-        base: Base::Rear,
-        along: Along::Nothing,
-        side: Side::Right,
-    },
-];
-
-// The front point of the first unit.
-fn front_end(v: Vehicle, d: [Vec2; 4], front: Vec2) -> End
-    requires { ⌜ RigAt v d front ⌝ }
-    ensures { λ r. ⌜ r ≡ frontOf v d front ⌝ }
+// A unit whose front point lies at `front`.
+fn place_of(u: Unit, d: Vec2, front: Vec2) -> UnitPlace
+    requires { ⌜ HitchReady u front d ⌝ }
+    ensures { λ r. ⌜ r ≡ placeOf u d front ⌝ }
 {
-    let units = v.units;
-    let first = units[0];
-    End {
-        place: front,
-        d: d[0],
-        wheelbase: exact::wide(first.wheelbase),
+    UnitPlace {
+        front,
+        rear: plane::minus(front, d),
+        d,
+        wheelbase: exact::wide(u.wheelbase),
     }
 }
 
-// The rear axle of the last unit, hitch by hitch from the front point of the first.
-fn rear_end(v: Vehicle, d: [Vec2; 4], front: Vec2) -> End
+// The units in use, hitch by hitch from the front point of the first; the others are zero.
+fn unit_places(v: Vehicle, d: [Vec2; 4], front: Vec2) -> [UnitPlace; 4]
     requires { ⌜ RigAt v d front ⌝ }
-    ensures { λ r. ⌜ r ≡ rearOf v d front ⌝ }
+    ensures { λ r. ⌜ r ≡ sets noPlaces 0 (placesOf v d front) ⌝ }
 {
     let units = v.units;
     let last = v.count - 1;
-    let mut place = front;
+    let mut places = [NO_PLACE; 4];
+    let mut here = front;
     let mut i = 0;
     while i < last {
-        place = walk::units::hitch_at(units[i], place, d[i]);
+        let unit = units[i];
+        places[i] = place_of(unit, d[i], here);
+        here = walk::units::hitch_at(unit, here, d[i]);
         i += 1;
     }
-    let unit = units[last];
-    let vector = d[last];
+    places[last] = place_of(units[last], d[last], here);
+    places
+}
+
+// The front point of a unit as an end.
+fn front_end(p: UnitPlace) -> End
+    ensures { λ r. ⌜ r ≡ frontEnd p ⌝ }
+{
+    let place = p.front;
+    let d = p.d;
     End {
-        place: plane::minus(place, vector),
-        d: vector,
-        wheelbase: exact::wide(unit.wheelbase),
+        place,
+        d,
+        wheelbase: p.wheelbase,
     }
 }
 
-fn end_of(base: Base, front: End, rear: End) -> End
-    ensures { λ r. ⌜ r ≡ endOf base front rear ⌝ }
+// The rear axle of a unit as an end.
+fn rear_end(p: UnitPlace) -> End
+    ensures { λ r. ⌜ r ≡ rearEnd p ⌝ }
+{
+    let place = p.rear;
+    let d = p.d;
+    End {
+        place,
+        d,
+        wheelbase: p.wheelbase,
+    }
+}
+
+// The end that a base names.
+fn end_of(v: Vehicle, places: [UnitPlace; 4], base: Base) -> End
+    requires { ⌜ BaseInUse v base ⌝ }
+    ensures { λ r. ⌜ r ≡ endOf v places base ⌝ }
 {
     match base {
-        Base::Front => front,
-        Base::Rear => rear,
+        Base::Front(i) => front_end(places[i]),
+        Base::LastRear => {
+            let last = v.count - 1;
+            rear_end(places[last])
+        }
     }
 }
 
@@ -125,12 +124,12 @@ fn along_of(v: Vehicle, along: Along) -> i64
     }
 }
 
-fn half_width(v: Vehicle, base: Base) -> i64
-    ensures { λ r. ⌜ r ≡ halfWidth v base ⌝ }
+fn half_width(v: Vehicle, width: Width) -> i64
+    ensures { λ r. ⌜ r ≡ halfWidth v width ⌝ }
 {
-    match base {
-        Base::Front => exact::wide(v.front_half_width),
-        Base::Rear => exact::wide(v.rear_half_width),
+    match width {
+        Width::FrontHalf => exact::wide(v.front_half_width),
+        Width::RearHalf => exact::wide(v.rear_half_width),
     }
 }
 
@@ -160,33 +159,33 @@ fn offset_from(e: End, along: i64, side: i64) -> Vec2
     plane::nearest_vector(sum, e.wheelbase)
 }
 
-// The point with number k.
-fn point(v: Vehicle, front: End, rear: End, k: usize) -> Vec2
-    requires { ⌜ Measured v front rear k ⌝ }
-    ensures { λ r. ⌜ r ≡ pointAt v front rear (rowAt k) ⌝ }
+// The point that a row of the table places.
+fn point(v: Vehicle, places: [UnitPlace; 4], row: Row) -> Vec2
+    requires { ⌜ Measured v places row ⌝ }
+    ensures { λ r. ⌜ r ≡ pointAt v places row ⌝ }
 {
-    let row = ROWS[k];
     let base = row.base;
     let along = row.along;
     let side = row.side;
-    let e = end_of(base, front, rear);
+    let width = row.width;
+    let e = end_of(v, places, base);
     let ahead = along_of(v, along);
-    let beside = side_of(side, half_width(v, base));
+    let beside = side_of(side, half_width(v, width));
     let offset = offset_from(e, ahead, beside);
     plane::plus(e.place, offset)
 }
 
-// The points of a rig whose first front point is `front`.
-pub fn points(v: Vehicle, d: [Vec2; 4], front: Vec2) -> [Vec2; POINT_COUNT]
+// The points of a rig whose first front point is `front`; the places past them are zero.
+pub fn points(v: Vehicle, d: [Vec2; 4], front: Vec2) -> [Vec2; marks::POINT_CAPACITY]
     requires { ⌜ RigAt v d front ⌝ }
-    ensures { λ r. ⌜ r ≡ rigPoints v d front ⌝ }
+    ensures { λ r. ⌜ r ≡ sets noPoints 0 (rigPoints v d front) ⌝ }
 {
-    let first = front_end(v, d, front);
-    let last = rear_end(v, d, front);
-    let mut all = [Vec2 { x: 0, y: 0 }; POINT_COUNT];
+    let places = unit_places(v, d, front);
+    let count = marks::point_count(v);
+    let mut all = [Vec2 { x: 0, y: 0 }; marks::POINT_CAPACITY];
     let mut k = 0;
-    while k < POINT_COUNT {
-        all[k] = point(v, first, last, k);
+    while k < count {
+        all[k] = point(v, places, ROWS[k]);
         k += 1;
     }
     all

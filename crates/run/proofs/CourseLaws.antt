@@ -1,9 +1,10 @@
--- What any walk leaves: a station that it could reach, and runs of the same lengths.
+-- What any walk leaves: its vehicle, a station that it could reach, and runs of the same lengths.
 use Prim.Native.Nat.{ℕ, zero, suc, _+_, _-_, _≤_, _<_}
 use mathlib.Core.Path.{_≡_, refl, sym, _∙_, ap}
 use mathlib.Core.Bool.{Bool, true, false}
 use native.Mathlib.Omega.{arith}
 use Rattle.number.specs.Read.{pick}
+use Rattle.job.specs.declared.Vehicle.{Vehicle}
 use Rattle.path.specs.Laying.{PathRuns}
 use Rattle.walk.specs.Drawn.{Drawn, Call, Outcome, made, refused, refusedAt, stationAt}
 use Rattle.walk.specs.Tests.{lent, pathSound, recordSound, atLast}
@@ -34,7 +35,36 @@ module _ (s : Drawn) (c : Call) where
   unfolding drawStep
   one-on-at-most = by-tests (lent c) (pathSound (c .asked) (c .path)) (recordSound (c .asked) s) (atLast (c .asked) s) (afterTurning s (turningOf s c)) (turned-one (turningOf s c))
 
+-- and leaves the vehicle
+module _ (s : Drawn) (c : Call) where
+  same-by-tests : (a b d e : Bool) (t : Turning)
+      → pick a (pick b (pick d (pick e (turnedDown s 25) (afterTurning s t)) (turnedDown s 27)) (turnedDown s 26)) (turnedDown s 21) .state .vehicle ≡ s .vehicle
+  same-by-tests false b d e t = refl
+  same-by-tests true false d e t = refl
+  same-by-tests true true false e t = refl
+  same-by-tests true true true true t = refl
+  same-by-tests true true true false (turned ds) = refl
+  same-by-tests true true true false (stopped n u) = refl
+
+  pub vehicle-stays : drawStep s c .state .vehicle ≡ s .vehicle
+  unfolding drawStep
+  vehicle-stays = same-by-tests (lent c) (pathSound (c .asked) (c .path)) (recordSound (c .asked) s) (atLast (c .asked) s) (turningOf s c)
+
 module _ (asked : ℕ) (path : PathRuns) where
+  vehicle-by : (o : Outcome) (a b : Course) (v : Vehicle) → a .state .vehicle ≡ v → b .state .vehicle ≡ v → ifMade o a b .state .vehicle ≡ v
+  vehicle-by made a b v p q = p
+  vehicle-by (refused n) a b v p q = q
+  vehicle-by (refusedAt n u) a b v p q = q
+
+  pub course-vehicle : (n : ℕ) (s : Drawn) (r : Reaches) → walkOn n asked path s r .state .vehicle ≡ s .vehicle
+  unfolding walkOn
+  course-vehicle zero s r = refl
+  course-vehicle (suc n) s r =
+      let c = callOf asked path r in
+      let t = drawStep s c in
+      let x = crossed asked path (pointsAt s c) (pointsAt (t .state) c) r in
+      vehicle-by (t .answer) (walkOn n asked path (t .state) x) (record { answer = t .answer; state = t .state; runs = r }) (s .vehicle) (course-vehicle n (t .state) x ∙ vehicle-stays s c) (vehicle-stays s c)
+
   station-by : (o : Outcome) (a b : Course) (k : ℕ) → a .state .station ≤ k → b .state .station ≤ k → ifMade o a b .state .station ≤ k
   station-by made a b k p q = p
   station-by (refused n) a b k p q = q

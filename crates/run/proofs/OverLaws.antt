@@ -14,6 +14,7 @@ use Rattle.walk.specs.Tests.{lent, recordSound}
 use Rattle.walk.specs.Rig.{drawnStart}
 use Rattle.walk.proofs.PathTests.{path-station}
 use Rattle.walk.proofs.RecordTests.{lent-call, sound-record}
+use Rattle.walk.proofs.VehicleTests.{units-counted}
 use Rattle.walk.proofs.SoundKept.{start-sound}
 use Rattle.reaches.specs.Cells.{Reaches, clearedCell, cleared}
 use Rattle.reaches.proofs.CellLaws.{SameLengths, stations-lengths, lengths-of}
@@ -22,7 +23,7 @@ use Rattle.run.specs.declared.Ran.{Ran}
 use Rattle.run.specs.Walking.{Course, walkToEnd, stepsLeft, courseOf, Going}
 use Rattle.run.specs.Run.{walkOver, ranOver, Runnable, Tellable, OverEnsures}
 use Rattle.run.proofs.WalkingLaws.{same-call}
-use Rattle.run.proofs.CourseLaws.{ends-on-path, course-lengths}
+use Rattle.run.proofs.CourseLaws.{course-vehicle, ends-on-path, course-lengths}
 
 module _ (asked : ℕ) (path : PathRuns) (v : Vehicle) (r : Reaches) (y : Runnable v (callOf asked path r)) where
   pub some-asked : 1 ≤ asked
@@ -47,12 +48,14 @@ module _ (asked : ℕ) (path : PathRuns) (v : Vehicle) (r : Reaches) (y : Runnab
 
     -- walked to the end
     module _ (end : Advanced) (after : Reaches) (walked : courseOf end after ≡ walkToEnd asked path (view w) runs) where
-      pub end-tellable : Tellable (end .walk .station) (callOf asked path after)
+      pub end-tellable : Tellable (end .walk .vehicle) (end .walk .station) (callOf asked path after)
       end-tellable =
           let k = ends-on-path asked path (view w) runs (sound-record asked (view w) sound-start .station) in
           let l = subst (λ (x : Reaches). SameLengths x runs) (sym (ap (λ (c : Course). c .runs) walked)) (course-lengths asked path (stepsLeft asked (view w)) (view w) runs) in
           let m = cleared-lengths in
+          let same = ap (λ (c : Course). c .state .vehicle) walked ∙ course-vehicle asked path (stepsLeft asked (view w)) (view w) runs ∙ ap (λ (s : Drawn). s .vehicle) placed in
           record {
+            units = subst (λ (x : Vehicle). x .count ≤ 4) (sym same) (units-counted v (y .vehicle) .1);
             lent = lent-still after (record { left = l .left ∙ m .left; right = l .right ∙ m .right; marks = l .marks ∙ m .marks });
             station = rw (ap (λ (c : Course). c .state .station) walked) k;
           }

@@ -28,5 +28,5 @@ runnable-met : Runnable (inLine .vehicle) call
 runnable-met = record { lent = lent-passes; path = path-passes; vehicle = sound-record 2 (view inLine) record-passes .vehicle }
 
 -- at the last of the two stations
-tellable-met : Tellable 1 call
-tellable-met = record { lent = lent-passes; station = omega arith }
+tellable-met : Tellable (inLine .vehicle) 1 call
+tellable-met = record { units = omega arith; lent = lent-passes; station = omega arith }

@@ -1,5 +1,5 @@
 -- A whole job (01, "Rigs to try", the program sweep): its path laid, its vehicle placed, every step made, the widest place read off; or the step that was refused.
-use Prim.Native.Nat.{ℕ, zero, suc, _+_, _<_}
+use Prim.Native.Nat.{ℕ, zero, suc, _+_, _≤_, _<_}
 use mathlib.Core.Path.{_≡_}
 use mathlib.Core.Bool.{Bool, true, _&&_}
 use lib.Dec.{eqb}
@@ -8,13 +8,14 @@ use Rattle.number.specs.Read.{pick}
 use Rattle.job.specs.declared.Vehicle.{Vehicle}
 use Rattle.job.specs.declared.Job.{Job}
 use Rattle.job.specs.Faults.{judge}
+use Rattle.marks.specs.Count.{pointCount}
 use Rattle.path.specs.Stations.{stations}
 use Rattle.path.specs.Laying.{PathRuns, roomFor, written}
 use Rattle.walk.specs.Drawn.{Drawn, Call, stationAt, Outcome, made, refused, refusedAt}
 use Rattle.walk.specs.Tests.{lent, reachesLent, pathSound, vehicleSound}
 use Rattle.walk.specs.Rig.{drawnStart}
 use Rattle.reaches.specs.Cells.{Reaches, lengthsOf, cleared}
-use Rattle.reaches.specs.Widest.{sixPoints, widestAmong}
+use Rattle.reaches.specs.Widest.{widestAmong}
 use Rattle.stations.specs.Placing.{callOf, unlessRefused}
 use Rattle.run.specs.declared.Finish.{Finish}
 use Rattle.run.specs.declared.Ran.{Ran}
@@ -26,12 +27,12 @@ abbrev pub walkOver : ℕ → PathRuns → Vehicle → Reaches → Course
 walkOver asked path v r = walkToEnd asked path (drawnStart v (stationAt path 0 .heading)) (cleared asked r)
 
 -- finished: the steps made, the widest place if a station is complete, the last front point
-abbrev pub finishAt : ℕ → ℕ → PathRuns → Reaches → Finish
-finishAt station asked path r = record { steps = station; widest = widestAmong sixPoints asked r; front = stationAt path station .position }
+abbrev pub finishAt : Vehicle → ℕ → ℕ → PathRuns → Reaches → Finish
+finishAt v station asked path r = record { steps = station; widest = widestAmong (pointCount v) asked r; front = stationAt path station .position }
 
 -- stopped: the number, and the unit and the step counted from 1; a refusal that names no unit, which no laid path meets, would name unit 0
 abbrev pub ranBy : ℕ → PathRuns → Outcome → Drawn → Reaches → Ran
-ranBy asked path made s r = R.Finished (finishAt (s .station) asked path r)
+ranBy asked path made s r = R.Finished (finishAt (s .vehicle) (s .station) asked path r)
 ranBy asked path (refused n) s r = R.Stopped n 0 (s .station + 1)
 ranBy asked path (refusedAt n u) s r = R.Stopped n u (s .station + 1)
 
@@ -72,7 +73,8 @@ pub record OverEnsures (asked : ℕ) (path : PathRuns) (v : Vehicle) (r : Reache
   pub answered : answer ≡ ranOver asked path (walkOver asked path v r)
   pub reaches : r' ≡ walkOver asked path v r .runs
 
--- what telling the answer asks: runs with room, and a station on the path
-pub record Tellable (k : ℕ) (c : Call) : Type 0 where
+-- what telling the answer asks: a vehicle with places for its units, runs with room, and a station on the path
+pub record Tellable (v : Vehicle) (k : ℕ) (c : Call) : Type 0 where
+  pub units : v .count ≤ 4
   pub lent : lent c ≡ true
   pub station : k < c .asked

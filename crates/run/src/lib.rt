@@ -1,6 +1,7 @@
 // A whole job: its path laid, its vehicle placed and stepped to the last station.
 use job::Job;
 use job::Vehicle;
+use marks::Mark;
 use path::Laid;
 use plane::Vec2;
 use reaches::Best;
@@ -49,7 +50,7 @@ fn walk_on(
     gys: &[i32],
     left: &mut [i32],
     right: &mut [i32],
-    marks: &mut [u8],
+    marks: &mut [Mark],
 ) -> Advanced
     requires { ⌜ Going (view w) (callOf asked (pathRuns (now xs) (now ys) (now gxs) (now gys)) (reachRuns (now left) (now right) (now marks))) ⌝ }
     ensures { λ r. ⌜ courseOf r (reachRuns (now (left .exit)) (now (right .exit)) (now (marks .exit)))
@@ -72,6 +73,7 @@ fn walk_on(
 
 // The walk at its last station: its steps, the widest place and the front point there.
 fn finished(
+    v: Vehicle,
     station: usize,
     asked: usize,
     xs: &[i32],
@@ -80,14 +82,15 @@ fn finished(
     gys: &[i32],
     left: &[i32],
     right: &[i32],
-    marks: &[u8],
+    marks: &[Mark],
 ) -> Finish
-    requires { ⌜ Tellable station (callOf asked (pathRuns (now xs) (now ys) (now gxs) (now gys)) (reachRuns (now left) (now right) (now marks))) ⌝ }
-    ensures { λ r. ⌜ r ≡ finishAt station asked (pathRuns (now (xs .entry)) (now (ys .entry)) (now (gxs .entry)) (now (gys .entry))) (reachRuns (now (left .entry)) (now (right .entry)) (now (marks .entry))) ⌝ }
+    requires { ⌜ Tellable v station (callOf asked (pathRuns (now xs) (now ys) (now gxs) (now gys)) (reachRuns (now left) (now right) (now marks))) ⌝ }
+    ensures { λ r. ⌜ r ≡ finishAt v station asked (pathRuns (now (xs .entry)) (now (ys .entry)) (now (gxs .entry)) (now (gys .entry))) (reachRuns (now (left .entry)) (now (right .entry)) (now (marks .entry))) ⌝ }
 {
     let last = walk::tests::station_at(xs, ys, gxs, gys, station);
     let front = last.position;
-    let widest = reaches::widest_among(reaches::SIX_POINTS, asked, left, right, marks);
+    let count = marks::point_count(v);
+    let widest = reaches::widest_among(count, asked, left, right, marks);
     Finish {
         steps: station,
         widest,
@@ -105,9 +108,9 @@ fn told(
     gys: &[i32],
     left: &[i32],
     right: &[i32],
-    marks: &[u8],
+    marks: &[Mark],
 ) -> Ran
-    requires { ⌜ Tellable (end .walk .station) (callOf asked (pathRuns (now xs) (now ys) (now gxs) (now gys)) (reachRuns (now left) (now right) (now marks))) ⌝ }
+    requires { ⌜ Tellable (end .walk .vehicle) (end .walk .station) (callOf asked (pathRuns (now xs) (now ys) (now gxs) (now gys)) (reachRuns (now left) (now right) (now marks))) ⌝ }
     ensures { λ r. ⌜ r ≡ ranOver asked (pathRuns (now (xs .entry)) (now (ys .entry)) (now (gxs .entry)) (now (gys .entry))) (courseOf end (reachRuns (now (left .entry)) (now (right .entry)) (now (marks .entry)))) ⌝ }
 {
     let w = end.walk;
@@ -115,7 +118,18 @@ fn told(
     let answer = end.answer;
     match answer {
         StepAnswer::Made => {
-            Ran::Finished(finished(station, asked, xs, ys, gxs, gys, left, right, marks))
+            Ran::Finished(finished(
+                w.vehicle,
+                station,
+                asked,
+                xs,
+                ys,
+                gxs,
+                gys,
+                left,
+                right,
+                marks,
+            ))
         }
         StepAnswer::Refused(n) => Ran::Stopped(n, 0, station + 1),
         StepAnswer::RefusedUnit(n, u) => Ran::Stopped(n, u, station + 1),
@@ -132,7 +146,7 @@ pub fn run_over(
     gys: &[i32],
     left: &mut [i32],
     right: &mut [i32],
-    marks: &mut [u8],
+    marks: &mut [Mark],
 ) -> Ran
     requires { ⌜ Runnable v (callOf asked (pathRuns (now xs) (now ys) (now gxs) (now gys)) (reachRuns (now left) (now right) (now marks))) ⌝ }
     ensures { λ r. ⌜ OverEnsures asked (pathRuns (now (xs .entry)) (now (ys .entry)) (now (gxs .entry)) (now (gys .entry))) v
@@ -157,7 +171,7 @@ pub fn run(
     gys: &mut [i32],
     left: &mut [i32],
     right: &mut [i32],
-    marks: &mut [u8],
+    marks: &mut [Mark],
 ) -> Ran
     ensures { λ r. ⌜ RunEnsures j
         (pathRuns (now (xs .entry)) (now (ys .entry)) (now (gxs .entry)) (now (gys .entry)))

@@ -1,10 +1,11 @@
 -- What a call that passed the tests gives to those who measure and step.
-use Prim.Native.Nat.{ℕ, _+_, _<_}
-use mathlib.Core.Path.{_≡_, refl, sym, _∙_, ap, subst}
+use Prim.Native.Nat.{ℕ, _+_, _≤_, _<_}
+use mathlib.Core.Path.{_≡_, refl, sym, _∙_, ap, ap₂, subst}
 use mathlib.Core.Bool.{true, false}
 use mathlib.Core.List.{List}
 use native.Mathlib.Omega.{arith}
-use lib.ListN.{length, getD}
+use lib.ListN.{length, getD, take}
+use lib.Seq.{sets, getD-take}
 use Rattle.plane.specs.declared.Vec2.{Vec2}
 use Rattle.job.specs.declared.Vehicle.{Vehicle}
 use Rattle.path.specs.Laying.{PathRuns}
@@ -19,9 +20,11 @@ use Rattle.walk.specs.Moving.{AdvanceEnsures}
 use Rattle.walk.proofs.PathTests.{path-station}
 use Rattle.walk.proofs.RecordTests.{lent-call, sound-record, not-last}
 use Rattle.walk.proofs.StepKept.{step-rule}
-use Rattle.points.specs.Points.{rigPoints}
+use Rattle.marks.specs.Count.{pointCount}
+use Rattle.marks.proofs.CountLaws.{count-fits, some-point}
+use Rattle.points.specs.Points.{noPoints, rigPoints}
 use Rattle.points.specs.Requires.{RigAt}
-use Rattle.points.proofs.PointLaws.{points-sized}
+use Rattle.points.proofs.PointLaws.{points-sized, points-taken}
 use Rattle.points.proofs.SoundRig.{sound-rig}
 use Rattle.reaches.specs.Cells.{Reaches}
 use Rattle.reaches.specs.Inner.{Room, SizedPoint, Crossable}
@@ -33,19 +36,30 @@ use Rattle.stations.proofs.RigLaws.{sound-keeping, keeping-ready}
 pub room-of : (asked : ℕ) (p : PathRuns) (r : Reaches) → lent (callOf asked p r) ≡ true → Room asked r
 room-of asked p r e = let l = lent-call (callOf asked p r) e .1 in record { left = l .left; right = l .right; marks = l .marks }
 
--- the points of a rig, as those who measure ask them
-sized : (w : Walk) (f : Vec2) → RigAt (w .vehicle) (w .d) f → (k : ℕ) → k < 6 → SizedPoint (getD (rigPoints (w .vehicle) (w .d) f) k zeroVector)
-sized w f a k h = let p = points-sized a k in record { x = p .x; y = p .y }
+-- the points of a rig, at the start of an array, as those who measure ask them
+sized : {v : Vehicle} {ds : List Vec2} {f : Vec2} → RigAt v ds f → (n : ℕ) → pointCount v ≡ n → (k : ℕ) → k < n → SizedPoint (getD (sets noPoints 0 (rigPoints v ds f)) k zeroVector)
+sized {v} {ds} {f} a n e k h =
+    let taken = points-taken v (a .rig .most) ds f in
+    let p = points-sized a k in
+    let same : getD (sets noPoints 0 (rigPoints v ds f)) k zeroVector ≡ getD (rigPoints v ds f) k zeroVector =
+    sym (getD-take (pointCount v) (sets noPoints 0 (rigPoints v ds f)) k zeroVector (rw e h)) ∙ ap (λ (l : List Vec2). getD l k zeroVector) taken in
+    rw same (record { x = p .x; y = p .y })
+
+-- taken from an array as many as the vehicle has
+pub taken-as : (v : Vehicle) → v .count ≤ 4 → (ds : List Vec2) (f : Vec2) {n : ℕ} {l : List Vec2} → n ≡ pointCount v → l ≡ sets noPoints 0 (rigPoints v ds f) → take n l ≡ rigPoints v ds f
+taken-as v m ds f e g = ap₂ take e g ∙ points-taken v m ds f
 
 pub crossable : (w w' : Walk) (old new : Vec2) (asked : ℕ) (p : PathRuns) (r : Reaches) → Enterable w w' old new (callOf asked p r)
-    → Crossable asked p (rigPoints (w .vehicle) (w .d) old) (rigPoints (w' .vehicle) (w' .d) new) r
+    → Crossable asked p (pointCount (w .vehicle)) (sets noPoints 0 (rigPoints (w .vehicle) (w .d) old)) (sets noPoints 0 (rigPoints (w' .vehicle) (w' .d) new)) r
 crossable w w' old new asked p r e =
     record {
       lent = lent-call (callOf asked p r) (e .lent) .0 .room;
       room = room-of asked p r (e .lent);
       stations = λ i h. path-station p asked i (e .path) h;
-      old = sized w old (e .before);
-      new = sized w' new (e .after);
+      some = some-point (w .vehicle);
+      points = record { most = count-fits (w .vehicle) (e .before .rig .most) };
+      old = sized (e .before) (pointCount (w .vehicle)) refl;
+      new = sized (e .after) (pointCount (w .vehicle)) (ap pointCount (e .vehicle));
     }
 
 -- a rig that has its lengths, at a station of a sound path
@@ -69,6 +83,7 @@ enterable w w' c n o e =
     record {
       lent = o .lent;
       path = o .path;
+      vehicle = vehicle-same w w' c o e;
       before = rig-at w (c .path) (c .asked) (w .station) n k (o .path) (sound-record (c .asked) (view w) (o .rig) .station);
       after = rig-at w' (c .path) (c .asked) (w .station + 1) n' (subst Keeping e (step-rule .kept (view w) c k)) (o .path) (not-last (c .asked) (view w) (o .notLast));
     }

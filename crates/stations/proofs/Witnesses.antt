@@ -29,4 +29,4 @@ enter-met : Enterable inLine inLine (stationAt twoStations 0 .position) (station
 enter-met =
     let k = sound-keeping 2 (view inLine) record-passes in
     let r = rig-at inLine twoStations 2 0 refl k path-passes (omega arith) in
-    record { lent = lent-passes; path = path-passes; before = r; after = r }
+    record { lent = lent-passes; path = path-passes; vehicle = refl; before = r; after = r }

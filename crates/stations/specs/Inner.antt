@@ -28,10 +28,11 @@ vehicleRefusal v = pick (vehicleSound v) 0 27
 unfoldable pub recordRefusal : ℕ → Drawn → ℕ
 recordRefusal asked s = pick (recordSound asked s) (pick (atLast asked s) 25 0) 27
 
--- two states of a rig whose points are entered at the stations of a path
+-- two states of one vehicle's rig whose points are entered at the stations of a path
 pub record Enterable (w w' : Walk) (old new : Vec2) (c : Call) : Type 0 where
   pub lent : lent c ≡ true
   pub path : pathSound (c .asked) (c .path) ≡ true
+  pub vehicle : w' .vehicle ≡ w .vehicle
   pub before : RigAt (w .vehicle) (w .d) old
   pub after : RigAt (w' .vehicle) (w' .d) new
 

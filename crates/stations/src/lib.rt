@@ -1,5 +1,6 @@
 // Placing a walk and stepping it, with what the stations keep of it.
 use job::Vehicle;
+use marks::Mark;
 use plane::Vec2;
 use walk::Advanced;
 use walk::StepAnswer;
@@ -84,7 +85,7 @@ pub fn place(
     gys: &[i32],
     left: &mut [i32],
     right: &mut [i32],
-    marks: &mut [u8],
+    marks: &mut [Mark],
 ) -> Placing
     ensures { λ r. ⌜ PlaceEnsures v before
         (callOf asked (pathRuns (now (xs .entry)) (now (ys .entry)) (now (gxs .entry)) (now (gys .entry))) (reachRuns (now (left .entry)) (now (right .entry)) (now (marks .entry))))
@@ -132,7 +133,7 @@ fn enter(
     gys: &[i32],
     left: &mut [i32],
     right: &mut [i32],
-    marks: &mut [u8],
+    marks: &mut [Mark],
 )
     requires { ⌜ Enterable before after old new (callOf asked (pathRuns (now xs) (now ys) (now gxs) (now gys)) (reachRuns (now left) (now right) (now marks))) ⌝ }
     ensures { λ _. ⌜ reachRuns (now (left .exit)) (now (right .exit)) (now (marks .exit))
@@ -140,9 +141,22 @@ fn enter(
 {
     let d = before.d;
     let turned = after.d;
+    let count = marks::point_count(before.vehicle);
     let olds = points::points(before.vehicle, d, old);
     let news = points::points(after.vehicle, turned, new);
-    reaches::cross(asked, xs, ys, gxs, gys, olds, news, left, right, marks);
+    reaches::cross(
+        asked,
+        xs,
+        ys,
+        gxs,
+        gys,
+        count,
+        olds,
+        news,
+        left,
+        right,
+        marks,
+    );
 }
 
 // A step that no test before 22 refuses.
@@ -155,7 +169,7 @@ pub fn advance_and_enter(
     gys: &[i32],
     left: &mut [i32],
     right: &mut [i32],
-    marks: &mut [u8],
+    marks: &mut [Mark],
 ) -> Advanced
     requires { ⌜ Open (view w) (callOf asked (pathRuns (now xs) (now ys) (now gxs) (now gys)) (reachRuns (now left) (now right) (now marks))) ⌝ }
     ensures { λ r. ⌜ StepEnsures w
@@ -204,7 +218,7 @@ pub fn step(
     gys: &[i32],
     left: &mut [i32],
     right: &mut [i32],
-    marks: &mut [u8],
+    marks: &mut [Mark],
 ) -> Advanced
     ensures { λ r. ⌜ StepEnsures w
         (callOf asked (pathRuns (now (xs .entry)) (now (ys .entry)) (now (gxs .entry)) (now (gys .entry))) (reachRuns (now (left .entry)) (now (right .entry)) (now (marks .entry))))

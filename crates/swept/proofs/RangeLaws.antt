@@ -28,7 +28,8 @@ use Rattle.run.proofs.StopLaws.{StopsIn, units-stop}
 use Rattle.reaches.specs.declared.Best.{Best}
 use Rattle.reaches.specs.declared.Best.the-variants.{Nothing, Found}
 use Rattle.reaches.specs.Cells.{Reaches, lengthsOf, cleared}
-use Rattle.reaches.specs.Widest.{sixPoints, widestAmong}
+use Rattle.marks.specs.Count.{pointCount}
+use Rattle.reaches.specs.Widest.{widestAmong}
 use Rattle.reaches.specs.Crossing.{crossed, crossedFrom}
 use Rattle.reaches.proofs.CellLaws.{stations-lengths}
 use Rattle.reaches.proofs.WidestLaws.{Right, among-right}
@@ -116,10 +117,10 @@ module _ (j : Job) (sound : judge j ≡ 0) (p : PathRuns) (r : Reaches) (room : 
       let g = placed-going asked path (j .vehicle) r can-run placed (cleared asked r) refl refl in
       course-so asked path (asked - 1) (view placed) (cleared asked r) g (omega (arith, some-asked asked path (j .vehicle) r can-run))
 
-  widest-so : (q : Reaches) → OnPath (widestAmong sixPoints asked q)
-  widest-so q = by (widestAmong sixPoints asked q) (among-right sixPoints asked q)
+  widest-so : (n : ℕ) (q : Reaches) → OnPath (widestAmong n asked q)
+  widest-so n q = by (widestAmong n asked q) (among-right n asked q)
     where
-      by : (b : Best) → Right sixPoints asked q b → OnPath b
+      by : (b : Best) → Right n asked q b → OnPath b
       by Nothing h = tt
       by (Found f) h = omega (arith, h .inside, sound-path j sound .most)
 
@@ -127,7 +128,7 @@ module _ (j : Job) (sound : judge j ≡ 0) (p : PathRuns) (r : Reaches) (room : 
   ran-so = by (course .answer) (course .state) (course .runs) walk-so
     where
       by : (o : Outcome) (t : Drawn) (q : Reaches) → EndsSo (0 + (asked - 1)) o (t .station) → RanSo (ranBy asked path o t q)
-      by made t q h = record { steps = omega (arith, sound-path j sound .most); widest = widest-so q }
+      by made t q h = record { steps = omega (arith, sound-path j sound .most); widest = widest-so (pointCount (t .vehicle)) q }
       by (refused n) t q h = absurd h
       by (refusedAt n u) t q h = record { number = h .0; unit = (h .1, h .2); step = (omega arith, omega (arith, h .3, sound-path j sound .most)) }
 

@@ -39,7 +39,7 @@ pub fn points_at(
     ys: &[i32],
     gxs: &[i32],
     gys: &[i32],
-) -> [Vec2; 6] {
+) -> [Vec2; marks::POINT_CAPACITY] {
     if walk::tests::path_lent(asked, xs, ys, gxs, gys) {
         if walk::tests::path_sound(asked, xs, ys, gxs, gys) {
             if walk::tests::record_sound(asked, w) {
@@ -49,5 +49,5 @@ pub fn points_at(
             }
         }
     }
-    [Vec2 { x: 0, y: 0 }; 6]
+    [Vec2 { x: 0, y: 0 }; marks::POINT_CAPACITY]
 }

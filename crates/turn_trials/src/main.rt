@@ -32,7 +32,7 @@ fn measure_row(
     text: &[u8],
     from: usize,
     row: usize,
-    drawn: [Vec2; 6],
+    drawn: [Vec2; marks::POINT_CAPACITY],
     squares: &mut [i64; SQUARES],
 ) -> usize {
     let mut at = from;

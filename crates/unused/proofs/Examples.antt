@@ -30,7 +30,9 @@ use Rattle.walk.specs.declared.StepAnswer.the-variants as S
 use Rattle.walk.specs.Tests.{lent, stationSound, pathSound, vehicleSound, vectorSound, vectorsSound, recordSound, atLast}
 use Rattle.walk.specs.Units.{turnUnits}
 use Rattle.walk.specs.Rig.{zeroVector, startVectors, drawStep}
-use Rattle.points.specs.Ends.{rearEnd}
+use Rattle.marks.specs.Count.{pointCount}
+use Rattle.marks.specs.Marks.{allSet}
+use Rattle.points.specs.Ends.{unitPlaces}
 use Rattle.points.specs.Points.{pointAt, rigPoints}
 use Rattle.reaches.specs.Cells.{Reaches, reachRuns, atStations}
 use Rattle.reaches.specs.Crossing.{reachOf, crosses, crossedBy, crossedFrom}
@@ -65,7 +67,7 @@ abbrev reachRoom : Reaches
 reachRoom = reachRuns zeros zeros (replicate 14 0)
 
 runs-as-worked : (u : VehicleUnit) (e : Element) → RunsAsWorked (jobWith u e) pathRoom reachRoom
-unfolding nearestSize nearestZ hasLength headingAllowed emptyUnits emptyElements faultOf unitsFault elementsFault vehicleFault judge fullSteps cutsFrom stepsOn stationsFrom stations placedBy turnedBy tooFar lent stationSound pathSound vehicleSound vectorSound vectorsSound recordSound atLast turnUnits startVectors drawStep rearEnd pointAt rigPoints atStations reachOf crosses crossedBy crossedFrom widestAmong walkOn runRefusal writeMany writeGroups writeNumber writeJob
+unfolding nearestSize nearestZ hasLength headingAllowed emptyUnits emptyElements faultOf unitsFault elementsFault vehicleFault judge fullSteps cutsFrom stepsOn stationsFrom stations placedBy turnedBy tooFar lent stationSound pathSound vehicleSound vectorSound vectorsSound recordSound atLast turnUnits startVectors drawStep unitPlaces pointCount allSet pointAt rigPoints atStations reachOf crosses crossedBy crossedFrom widestAmong walkOn runRefusal writeMany writeGroups writeNumber writeJob
 runs-as-worked u e = record {
   noFault = refl;
   written = record { answer = refl; written = refl; units = refl; elements = refl };
@@ -134,7 +136,7 @@ unfolding emptyUnits nearestSize nearestZ hasLength faultOf unitsFault vehicleFa
 placed-so u w = place-done (vehicleWith u) w (callOf 2 (pathTo (pos 5000)) lentRuns) lentRuns (at 0 u) clearedRuns refl refl refl
 
 made-so : StepsSo 0 (pos 5000) clearedRuns S.Made 1 crossedRuns
-unfolding emptyUnits nearestSize nearestZ hasLength faultOf unitsFault vehicleFault turnedBy tooFar lent stationSound pathSound vehicleSound vectorSound vectorsSound recordSound atLast turnUnits drawStep rearEnd pointAt rigPoints atStations reachOf crosses crossedBy crossedFrom
+unfolding emptyUnits nearestSize nearestZ hasLength faultOf unitsFault vehicleFault turnedBy tooFar lent stationSound pathSound vehicleSound vectorSound vectorsSound recordSound atLast turnUnits drawStep unitPlaces pointCount allSet pointAt rigPoints atStations reachOf crosses crossedBy crossedFrom
 made-so u = record { stepped = refl; unchanged = λ n. absurd (n refl); runs = refl }
 
 last-so : StepsSo 1 (pos 5000) crossedRuns (S.Refused 25) 1 crossedRuns

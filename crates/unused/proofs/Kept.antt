@@ -17,6 +17,7 @@ use Rattle.walk.specs.declared.Walk.{Walk}
 use Rattle.walk.specs.declared.Advanced.{Advanced}
 use Rattle.walk.specs.Drawn.{Drawn, view, Call, Outcome, made, refused, refusedAt, outcomeOf}
 use Rattle.walk.specs.Rig.{Stepped, drawStep}
+use Rattle.marks.proofs.CountLaws.{same-count}
 use Rattle.reaches.specs.Cells.{Reaches}
 use Rattle.stations.specs.declared.Placing.{Placing}
 use Rattle.stations.specs.Placing.{placeRefusal, unlessRefused, startHeading, PlaceEnsures}
@@ -81,7 +82,7 @@ ran-same : (asked : ℕ) (path : PathRuns) (x y : Course) → AlikeCourse x y �
 ran-same asked path x y e = rw (e .answer, e .runs) (by (y .answer))
   where
     by : (o : Outcome) → ranBy asked path o (x .state) (y .runs) ≡ ranBy asked path o (y .state) (y .runs)
-    by made = rw (e .state .station)
+    by made = rw (e .state .station, same-count (x .state .vehicle) (y .state .vehicle) (e .state .vehicle .count))
     by (refused n) = rw (e .state .station)
     by (refusedAt n u) = rw (e .state .station)
 

@@ -1,64 +1,90 @@
--- `points::points` meets its contract. The loop's invariant: the first k places hold the first k points. Assumes nothing.
-use Prim.Native.Nat.{_-_, _≤_}
-use mathlib.Core.Path.{_≡_, _∙_, ap₂}
-use mathlib.Core.List.{map}
+-- `points::points` meets its contract: the code's table is the definition's. The loop's invariant: the points left, over those filled in, are all of them. Assumes nothing.
+use Prim.Native.Nat.{ℕ, _+_, _-_, _≤_, _<_}
+use mathlib.Core.Path.{_≡_, refl, sym, _∙_, ap, ap₂, subst}
+use mathlib.Core.List.{List, map}
 use native.Mathlib.Omega.{arith}
 use borrow.Author.Needs.{needs}
-use lib.ListN.{length, take, length-set}
-use Rattle.points.specs.declared.End.{End}
-use Rattle.points.specs.Points.{rowAt, pointAt, pointRows, rigPoints}
-use Rattle.points.proofs.EndLaws.{front-sized, rear-sized}
+use lib.ListN.{length, take, drop, set}
+use lib.Seq.{sets}
+use Rattle.plane.specs.declared.Vec2.{Vec2}
+use Rattle.marks.specs.Count.{pointCount, pointCapacity}
+use Rattle.marks.proofs.CountLaws.{count-fits}
+use Rattle.points.specs.declared.UnitPlace.{UnitPlace}
+use Rattle.points.specs.Points.{rowAt, pointAt, pointRows, noPoints}
+use Rattle.points.specs.Requires.{Measured}
 use Rattle.points.proofs.Filling.{filled-more, filled-all}
+use Rattle.points.proofs.TableLaws.{rows-enough, row-in-use}
+use Rattle.points.proofs.PointLaws.{array-sized, array-points}
 use Rattle.points.proofs.points.Statement.{statement}
 use Rattle.points.proofs.points.Tie as tie
 
 abbrev Inv-loop : tie.InvT-loop
-Inv-loop v first last all₀ k₀ all k = (k ≤ 6) × (length all ≡ 6) × (take k all ≡ map (pointAt v first last) (take k pointRows))
+Inv-loop v places count all₀ k₀ all k =
+    (k ≤ count) × (sets all k (map (pointAt v places) (drop k (take count pointRows))) ≡ sets noPoints 0 (map (pointAt v places) (take count pointRows)))
 
 abbrev μ-loop : tie.MeasureT-loop
-μ-loop v first last all₀ k₀ all k = 6 - k
+μ-loop v places count all₀ k₀ all k = count - k
 
-front-end-requires : tie.Need-front-end-requires Inv-loop μ-loop
-front-end-requires c κs = search needs
+-- a point of the loop is one of the vehicle's, so it has its row and its place
+module _ (c : tie.In-loop Inv-loop μ-loop) where
+  own : c .before .loop .k < pointCount (c .before .before .before .before .args .v)
+  own = rw (c .before .before .point-count .ensures) at (c .loop-test .taken)
 
-rear-end-requires : tie.Need-rear-end-requires Inv-loop μ-loop
-rear-end-requires c κs = search needs
+  there : c .before .loop .k < pointCapacity
+  there = let s = c .before .before .before .before in omega (arith, own, count-fits (s .args .v) (s .pre .rig .most))
+
+unit-places-requires : tie.Need-unit-places-requires Inv-loop μ-loop
+unit-places-requires c κs = search needs
+
+point-count-requires : tie.Need-point-count-requires Inv-loop μ-loop
+point-count-requires c κs = record { most = c .before .pre .rig .most }
 
 loop-holds : tie.Need-loop-holds Inv-loop μ-loop
-loop-holds c = search needs
+loop-holds c = (search needs, refl)
+
+mul-point : tie.Need-mul-point Inv-loop μ-loop
+mul-point c = record { fits = omega (arith, there c) }
+
+array-copy-out-point : tie.Need-array-copy-out-point Inv-loop μ-loop
+array-copy-out-point c = there c
 
 point-requires : tie.Need-point-requires Inv-loop μ-loop
-point-requires c κs = let s = c .before .before .before .before in
-    rw (c .before .before .before .front-end .ensures, c .before .before .rear-end .ensures)
-    (record { front = front-sized (s .pre); rear = search (front-sized (s .pre), rear-sized (s .pre)); body = s .pre .body; number = c .loop-test .taken })
+point-requires c κs = let s = c .before .before .before .before .before in
+    let k = c .before .before .loop .k in
+    subst (λ (ps : List UnitPlace). Measured (s .args .v) ps (rowAt k)) (sym (c .before .before .before .before .unit-places .ensures))
+    (record { rig = array-sized (s .pre); body = s .pre .body; base = row-in-use (s .args .v) (s .pre .rig .least) (s .pre .rig .most) k (own (c .before)) })
 
 mul-all : tie.Need-mul-all Inv-loop μ-loop
-mul-all c = search needs
+mul-all c = record { fits = omega (arith, there (c .before .before)) }
 
 array-set-from-all : tie.Need-array-set-from-all Inv-loop μ-loop
-array-set-from-all c = search needs
+array-set-from-all c = there (c .before .before)
 
 add-k : tie.Need-add-k Inv-loop μ-loop
-add-k c = search needs
+add-k c = record { fits = omega (arith, there (c .before .before)) }
 
 loop-less : tie.Need-loop-less Inv-loop μ-loop
 loop-less c = search needs
 
 loop-again : tie.Need-loop-again Inv-loop μ-loop
 loop-again c =
-    let l = c .before .before .loop in
-    let placed = pointAt (c .before .before .before .before .before .args .v) (c .before .before .before .before .front-end .result) (c .before .before .before .rear-end .result) in
-    let more = filled-more placed pointRows (l .all) (l .k) (rowAt 0) (c .before .loop-test .taken) (omega arith) (l .inv .2) in
-    (search needs, simp length-set (l .inv .1), rw (c .point .ensures) more)
+    let s = c .before .before .before .before .before .before in
+    let l = c .before .before .before .loop in
+    let count = c .before .before .before .before .point-count in
+    let placed = pointAt (s .args .v) (c .before .before .before .before .before .unit-places .result) in
+    let enough : count .result ≤ length pointRows = rw (count .ensures) (rows-enough (s .args .v) (s .pre .rig .most)) in
+    let left = map placed (drop (l .k + 1) (take (count .result) pointRows)) in
+    (search needs, ap (λ (p : Vec2). sets (set (l .all) (l .k) p) (l .k + 1) left) (c .point .ensures) ∙ filled-more placed pointRows (count .result) (l .all) (l .k) (rowAt 0) enough (c .before .before .loop-test .taken) ∙ l .inv .1)
 
 returns : tie.Need-returns Inv-loop μ-loop
-unfolding rigPoints
 returns c =
     let s = c .before .before .before .before in
     let l = c .before .loop in
-    let placed = pointAt (s .args .v) (c .before .before .before .front-end .result) (c .before .before .rear-end .result) in
-    filled-all placed pointRows (l .all) (l .k) (c .loop-test .left) (omega arith) (l .inv .2)
-    ∙ ap₂ (λ (f r : End). map (pointAt (s .args .v) f r) pointRows) (c .before .before .before .front-end .ensures) (c .before .before .rear-end .ensures)
+    let count = c .before .before .point-count in
+    let placed = pointAt (s .args .v) (c .before .before .before .unit-places .result) in
+    sym (filled-all placed pointRows (count .result) (l .all) (l .k) (c .loop-test .left)) ∙ l .inv .1
+    ∙ ap₂ (λ (ps : List UnitPlace) (n : ℕ). sets noPoints 0 (map (pointAt (s .args .v) ps) (take n pointRows))) (c .before .before .before .unit-places .ensures) (count .ensures)
+    ∙ ap (sets noPoints 0) (array-points (s .pre))
 
 pub points-spec : {M : Type 1} → statement M
 points-spec =
@@ -66,9 +92,11 @@ points-spec =
     (tie.spec
     Inv-loop
     μ-loop
-    front-end-requires
-    rear-end-requires
+    unit-places-requires
+    point-count-requires
     loop-holds
+    mul-point
+    array-copy-out-point
     point-requires
     mul-all
     array-set-from-all

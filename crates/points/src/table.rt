@@ -1,0 +1,68 @@
+// The table of the points of a rig: what each is measured from, how far ahead of it and how far beside it.
+use job::Side;
+
+// What a point is measured from: the front point of a unit, counted from 0, or the rear axle of the last unit.
+pub enum Base {
+    Front(usize),
+    LastRear,
+}
+
+// How far ahead of its base a point lies.
+pub enum Along {
+    Overhang,
+    Nothing,
+}
+
+// How far beside its base a point lies: the vehicle's half width at the front or at the rear.
+pub enum Width {
+    FrontHalf,
+    RearHalf,
+}
+
+// A row of the table.
+pub struct Row {
+    pub base: Base,
+    pub along: Along,
+    pub side: Side,
+    pub width: Width,
+}
+
+// The points by number: a rig has as many of them as `marks::point_count` says.
+pub const ROWS: [Row; marks::POINT_CAPACITY] = [
+    Row {
+        base: Base::Front(0),
+        along: Along::Overhang,
+        side: Side::Left,
+        width: Width::FrontHalf,
+    },
+    Row {
+        base: Base::Front(0),
+        along: Along::Overhang,
+        side: Side::Right,
+        width: Width::FrontHalf,
+    },
+    Row {
+        base: Base::Front(0),
+        along: Along::Nothing,
+        side: Side::Left,
+        width: Width::FrontHalf,
+    },
+    Row {
+        base: Base::Front(0),
+        along: Along::Nothing,
+        side: Side::Right,
+        width: Width::FrontHalf,
+    },
+    Row {
+        base: Base::LastRear,
+        along: Along::Nothing,
+        side: Side::Left,
+        width: Width::RearHalf,
+    },
+    Row {
+        base: Base::LastRear,
+        along: Along::Nothing,
+        side: Side::Right,
+        width: Width::RearHalf,
+    },
+];
