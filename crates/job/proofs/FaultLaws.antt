@@ -37,7 +37,7 @@ or-none false n rest h = absurd (omega arith)
 -- a vehicle without a fault, and a job
 pub record SoundVehicle (v : Vehicle) : Type 0 where
   pub count : unitCountAllowed (v .count) ≡ true
-  pub units : unitsFault (v .count) (v .units) ≡ 0
+  pub units : unitsFault (v .form) (v .count) (v .units) ≡ 0
   pub widths : widthsAllowed v ≡ true
 
 pub record Sound (j : Job) : Type 0 where
@@ -50,8 +50,8 @@ pub record Sound (j : Job) : Type 0 where
 pub sound-vehicle : (v : Vehicle) → vehicleFault v ≡ 0 → SoundVehicle v
 unfolding vehicleFault
 sound-vehicle v h =
-    let a = or-none (unitCountAllowed (v .count)) 2 (firstOf (unitsFault (v .count) (v .units)) (orFault (widthsAllowed v) 5 0)) h in
-    let b = first-none (unitsFault (v .count) (v .units)) (orFault (widthsAllowed v) 5 0) (a .1) in
+    let a = or-none (unitCountAllowed (v .count)) 2 (firstOf (unitsFault (v .form) (v .count) (v .units)) (orFault (widthsAllowed v) 5 0)) h in
+    let b = first-none (unitsFault (v .form) (v .count) (v .units)) (orFault (widthsAllowed v) 5 0) (a .1) in
     record { count = a .0; units = b .0; widths = or-none (widthsAllowed v) 4 0 (b .1) .0 }
 
 pub vehicle-sound : (v : Vehicle) → SoundVehicle v → vehicleFault v ≡ 0

@@ -1,4 +1,4 @@
--- What the fields of a job may hold: the table of 01, "The job record", row by row.
+-- What the fields of a job may hold: the table of 01, "The job record", row by row, with the bodies of a long job (02, N3).
 use Prim.Native.Nat.{ℕ}
 use mathlib.Core.Bool.{Bool, true, _&&_}
 use lib.IntN.{ℤ, pos, negsuc}
@@ -10,6 +10,9 @@ use Rattle.plane.specs.Length.{headingLength, hasLength}
 use Rattle.job.specs.declared.Curve.{Curve}
 use Rattle.job.specs.declared.Curve.the-variants.{Straight, Arc}
 use Rattle.job.specs.declared.Element.{Element}
+use Rattle.job.specs.declared.Body.{Body}
+use Rattle.job.specs.declared.Form.{Form}
+use Rattle.job.specs.declared.Form.the-variants.{Short, Long}
 use Rattle.job.specs.declared.Unit.{Unit as VehicleUnit}
 use Rattle.job.specs.declared.Vehicle.{Vehicle}
 use Rattle.job.specs.declared.Start.{Start}
@@ -38,6 +41,14 @@ foldAllowed first fold = pick first (sizeAtMost 0 fold) (leZ (negsuc 999) fold &
 
 abbrev pub overhangAllowed : ℕ → Bool
 overhangAllowed = between 0 50000
+
+-- the overhang after all units: "the old front overhang must be 0" in a long job
+abbrev pub overhangMost : Form → ℕ
+overhangMost Short = 50000
+overhangMost Long = 0
+
+abbrev pub oldOverhangAllowed : Form → ℕ → Bool
+oldOverhangAllowed form = between 0 (overhangMost form)
 
 abbrev pub halfWidthAllowed : ℕ → Bool
 halfWidthAllowed = between 1000 20000
@@ -68,8 +79,12 @@ abbrev pub unitAllowed : Bool → Bool → VehicleUnit → Bool
 unitAllowed first last u =
     wheelbaseAllowed (u .wheelbase) && (hitchAllowed last (u .wheelbase) (u .hitch) && foldAllowed first (u .fold))
 
+-- "A body's overhang above 50,000 or half width outside 1,000 to 20,000 is 5"
+abbrev pub bodyAllowed : Body → Bool
+bodyAllowed b = overhangAllowed (b .«front_overhang») && (overhangAllowed (b .«rear_overhang») && halfWidthAllowed (b .«half_width»))
+
 abbrev pub widthsAllowed : Vehicle → Bool
-widthsAllowed v = overhangAllowed (v .overhang) && (halfWidthAllowed (v .«front_half_width») && halfWidthAllowed (v .«rear_half_width»))
+widthsAllowed v = oldOverhangAllowed (v .form) (v .overhang) && (halfWidthAllowed (v .«front_half_width») && halfWidthAllowed (v .«rear_half_width»))
 
 abbrev pub startAllowed : Start → Bool
 startAllowed s = coordinateAllowed (s .x) && (coordinateAllowed (s .y) && headingAllowed (s .gx) (s .gy))

@@ -1,14 +1,15 @@
 // The job: its types, what its fields may hold, and the test of a job handed over by value.
+mod measures;
 mod rows;
 
 use number::Range;
 use plane::Vec2;
 ghost use mathlib.Core.Path.{_≡_};
 ghost use Rattle.number.specs.Field.{within, sizeAtMost};
-ghost use Rattle.job.specs.Allowed.{hitchMost, foldAllowed, curveAllowed, headingAllowed, unitAllowed, widthsAllowed, startAllowed, elementAllowed};
+ghost use Rattle.job.specs.Allowed.{hitchMost, foldAllowed, overhangMost, curveAllowed, headingAllowed, startAllowed};
 ghost use Rattle.job.specs.Steps.{stepsOf, tally, stepsAllowed};
 ghost use Rattle.job.specs.Faults.{vehicleFault, judge as judgeOf};
-ghost use Rattle.job.specs.Empty.{emptyUnits, emptyElements, emptyVehicle, emptyJob};
+ghost use Rattle.job.specs.Empty.{emptyBody, emptyUnits, emptyElements, emptyVehicle, emptyJob};
 ghost use Rattle.job.specs.Inner.{Countable};
 
 pub enum Side {
@@ -27,14 +28,29 @@ pub struct Element {
     pub curve: Curve,
 }
 
+// How far a unit's body reaches beyond its front point and its rear axle, and to either side.
+pub struct Body {
+    pub front_overhang: u32,
+    pub rear_overhang: u32,
+    pub half_width: u32,
+}
+
 // The hitch lies so far ahead of the rear axle; the fold limit is in thousandths.
 pub struct Unit {
     pub wheelbase: u32,
     pub hitch: i32,
     pub fold: i32,
+    pub body: Body,
+}
+
+// A long job has bodies; those of a short one are never read.
+pub enum Form {
+    Short,
+    Long,
 }
 
 pub struct Vehicle {
+    pub form: Form,
     pub count: usize,
     pub units: [Unit; 4],
     pub overhang: u32,
@@ -68,6 +84,8 @@ pub const OVERHANG: Range = Range {
     least: 0,
     most: 50000,
 };
+
+const NO_OVERHANG: Range = Range { least: 0, most: 0 };
 
 pub const HALF_WIDTH: Range = Range {
     least: 1000,
@@ -109,6 +127,16 @@ pub fn fold_allowed(first: bool, fold: i32) -> bool
     (-1000 <= fold) & (fold <= 990)
 }
 
+// The range of the overhang that stands once, after all units: bodies have their own.
+pub fn overhang_range(form: Form) -> Range
+    ensures { λ r. ⌜ r ≡ record { least = 0; most = overhangMost form } ⌝ }
+{
+    match form {
+        Form::Short => OVERHANG,
+        Form::Long => NO_OVERHANG,
+    }
+}
+
 pub fn heading_allowed(gx: i32, gy: i32) -> bool
     ensures { λ r. ⌜ r ≡ headingAllowed gx gy ⌝ }
 {
@@ -126,24 +154,6 @@ pub fn curve_allowed(curve: Curve) -> bool
     }
 }
 
-fn unit_allowed(first: bool, last: bool, u: Unit) -> bool
-    ensures { λ r. ⌜ r ≡ unitAllowed first last u ⌝ }
-{
-    let wheelbase = u.wheelbase;
-    let hitch = u.hitch;
-    let fold = u.fold;
-    number::is_within(WHEELBASE, wheelbase)
-        & ((number::size_of(hitch) <= hitch_most(last, wheelbase)) & fold_allowed(first, fold))
-}
-
-fn widths_allowed(v: Vehicle) -> bool
-    ensures { λ r. ⌜ r ≡ widthsAllowed v ⌝ }
-{
-    number::is_within(OVERHANG, v.overhang)
-        & (number::is_within(HALF_WIDTH, v.front_half_width)
-            & number::is_within(HALF_WIDTH, v.rear_half_width))
-}
-
 fn start_allowed(s: Start) -> bool
     ensures { λ r. ⌜ r ≡ startAllowed s ⌝ }
 {
@@ -153,13 +163,6 @@ fn start_allowed(s: Start) -> bool
     let gy = s.gy;
     (number::size_of(x) <= COORDINATE)
         & ((number::size_of(y) <= COORDINATE) & heading_allowed(gx, gy))
-}
-
-fn element_allowed(e: Element) -> bool
-    ensures { λ r. ⌜ r ≡ elementAllowed e ⌝ }
-{
-    let curve = e.curve;
-    number::is_within(LENGTH, e.length) & curve_allowed(curve)
 }
 
 // The running total of steps after one element more.
@@ -186,12 +189,13 @@ pub fn vehicle_fault(v: Vehicle) -> u8
     if !is_within_count(UNIT_COUNT, count) {
         return 3;
     }
+    let form = v.form;
     let units = v.units;
-    let fault = rows::units_fault(units, count);
+    let fault = rows::units_fault(form, units, count);
     if fault != 0 {
         return fault;
     }
-    if widths_allowed(v) { 0 } else { 5 }
+    if measures::widths_allowed(v) { 0 } else { 5 }
 }
 
 // A count in a range; a caller's count may be any.
@@ -224,14 +228,26 @@ pub fn judge(j: Job) -> u8
     rows::elements_fault(elements, count, step)
 }
 
+pub fn empty_body() -> Body
+    ensures { λ r. ⌜ r ≡ emptyBody ⌝ }
+{
+    Body {
+        front_overhang: 0,
+        rear_overhang: 0,
+        half_width: 0,
+    }
+}
+
 // The units and elements of a job that has none in use.
 pub fn empty_units() -> [Unit; 4]
     ensures { λ r. ⌜ r ≡ emptyUnits ⌝ }
 {
+    let body = empty_body();
     [Unit {
         wheelbase: 0,
         hitch: 0,
         fold: 0,
+        body,
     }; 4]
 }
 
@@ -249,6 +265,7 @@ pub fn empty_vehicle() -> Vehicle
 {
     let units = empty_units();
     Vehicle {
+        form: Form::Short,
         count: 0,
         units,
         overhang: 0,

@@ -3,3 +3,4 @@ pub mod ReadLaws
 pub mod PartLaws
 pub mod PlaceLaws
 pub mod Rows
+pub mod Witnesses

@@ -9,15 +9,18 @@ use lib.IntN.{ℤ}
 use Rattle.number.specs.Read.{got, refused, pick, return}
 use Rattle.number.specs.Field.{field, signedField}
 use Rattle.number.proofs.PlaceLaws.{RefusedIn, Inside, Stays, returned, after, from-here, checked, in-row, laid, field-stays, signed-stays, signed-field-stays}
-use Rattle.job.specs.Allowed.{unitCountAllowed, wheelbaseAllowed, hitchAllowed, foldAllowed, overhangAllowed, halfWidthAllowed, coordinateAllowed, headingAllowed, stepAllowed, elementCountAllowed, lengthAllowed}
+use Rattle.job.specs.Allowed.{wheelbaseAllowed, hitchAllowed, foldAllowed, overhangAllowed, oldOverhangAllowed, halfWidthAllowed, coordinateAllowed, headingAllowed, stepAllowed, elementCountAllowed, lengthAllowed}
+use Rattle.job.specs.Announced.{announces, announcedForm, announcedCount}
 use Rattle.job.specs.Curves.{curveOf, radiusAllowed}
 use Rattle.job.specs.Steps.{tally, stepsAllowed}
-use Rattle.job.specs.Empty.{emptyUnits, emptyElements}
+use Rattle.job.specs.Empty.{emptyBody, emptyUnits, emptyElements}
+use Rattle.job.specs.declared.Form.{Form}
+use Rattle.job.specs.declared.Form.the-variants.{Short, Long}
 use Rattle.job.specs.declared.Unit.{Unit as VehicleUnit}
 use Rattle.job.specs.declared.Vehicle.{Vehicle}
 use Rattle.job.specs.declared.Start.{Start}
 use Rattle.job.specs.declared.Job.{Job}
-use Rattle.job_reader.specs.Record.{readUnit, readUnitAt, readUnits, readWidths, readVehicle, readStart, readElement, readTotal, readElements, readPath, readRecord, readEnd, readJob}
+use Rattle.job_reader.specs.Record.{readBody, readBodyOf, readUnit, readUnitAt, readUnits, readWidths, readVehicle, readStart, readElement, readTotal, readElements, readPath, readRecord, readEnd, readJob}
 
 module _ (s : List ℕ) where
   by : (n p : ℕ) → T (leb 1 n) → T (leb n 10) → p ≤ length s → RefusedIn s 10 n p
@@ -29,27 +32,41 @@ module _ (s : List ℕ) where
   signed-field : (n : ℕ) → T (leb 1 n) → T (leb n 10) → (allowed : ℤ → Bool) → Stays s 10 (signedField n allowed)
   signed-field n l m = signed-field-stays s 10 (lit≤ tt) n (lit≤ l) (lit≤ m)
 
-  unit : (first last : Bool) → Stays s 10 (readUnit first last)
+  body : Stays s 10 readBody
+  unfolding readBody
+  body =
+      after s 10 (number-field 5 tt tt overhangAllowed) (λ f.
+      after s 10 (number-field 5 tt tt overhangAllowed) (λ r.
+      after s 10 (number-field 5 tt tt halfWidthAllowed) (λ w. returned s 10 (record { «front_overhang» = f; «rear_overhang» = r; «half_width» = w }))))
+
+  body-of : (form : Form) → Stays s 10 (readBodyOf form)
+  body-of Short = returned s 10 emptyBody
+  body-of Long = body
+
+  unit : (form : Form) (first last : Bool) → Stays s 10 (readUnit form first last)
   unfolding readUnit
-  unit first last =
+  unit form first last =
       after s 10 (number-field 4 tt tt wheelbaseAllowed) (λ l.
       after s 10 (signed-field 4 tt tt (hitchAllowed last l)) (λ h.
-      after s 10 (signed-field 4 tt tt (foldAllowed first)) (λ f. returned s 10 (record { wheelbase = l; hitch = h; fold = f }))))
+      after s 10 (signed-field 4 tt tt (foldAllowed first)) (λ f.
+      after s 10 (body-of form) (λ b. returned s 10 (record { wheelbase = l; hitch = h; fold = f; body = b })))))
 
-  units : (n : ℕ) → Stays s 10 (readUnits n)
+  units : (form : Form) (n : ℕ) → Stays s 10 (readUnits form n)
   unfolding readUnits
-  units n = laid s 10 emptyUnits (in-row s 10 (readUnitAt n) (λ i u. i + 1) (λ i. return []) (λ i. unit (eqb i 0) (eqb (i + 1) n)) (λ i. returned s 10 []) n 0)
+  units form n = laid s 10 emptyUnits (in-row s 10 (readUnitAt form n) (λ i u. i + 1) (λ i. return []) (λ i. unit form (eqb i 0) (eqb (i + 1) n)) (λ i. returned s 10 []) n 0)
 
-  widths : (n : ℕ) (us : List VehicleUnit) → Stays s 10 (readWidths n us)
+  widths : (form : Form) (n : ℕ) (us : List VehicleUnit) → Stays s 10 (readWidths form n us)
   unfolding readWidths
-  widths n us =
-      after s 10 (number-field 5 tt tt overhangAllowed) (λ o.
+  widths form n us =
+      after s 10 (number-field 5 tt tt (oldOverhangAllowed form)) (λ o.
       after s 10 (number-field 5 tt tt halfWidthAllowed) (λ f.
-      after s 10 (number-field 5 tt tt halfWidthAllowed) (λ r. returned s 10 (record { count = n; units = us; overhang = o; «front_half_width» = f; «rear_half_width» = r }))))
+      after s 10 (number-field 5 tt tt halfWidthAllowed) (λ r. returned s 10 (record { form = form; count = n; units = us; overhang = o; «front_half_width» = f; «rear_half_width» = r }))))
 
   vehicle : Stays s 10 readVehicle
   unfolding readVehicle
-  vehicle = after s 10 (number-field 3 tt tt unitCountAllowed) (λ n. after s 10 (units n) (λ us. widths n us))
+  vehicle =
+      after s 10 (number-field 3 tt tt announces) (λ n.
+      after s 10 (units (announcedForm n) (announcedCount n)) (λ us. widths (announcedForm n) (announcedCount n) us))
 
   start : Stays s 10 readStart
   unfolding readStart

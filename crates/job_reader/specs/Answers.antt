@@ -3,7 +3,8 @@ use Prim.Native.Nat.{ℕ}
 use mathlib.Core.Path.{_≡_}
 use mathlib.Core.List.{List}
 use Rattle.number.specs.Read.{Bytes, Read, got, refused}
-use Rattle.job.specs.Empty.{emptyUnit, emptyUnits, emptyVehicle, emptyStart, emptyElement, emptyElements, emptyJob}
+use Rattle.job.specs.Empty.{emptyBody, emptyUnit, emptyUnits, emptyVehicle, emptyStart, emptyElement, emptyElements, emptyJob}
+use Rattle.job.specs.declared.Body.{Body}
 use Rattle.job.specs.declared.Unit.{Unit as VehicleUnit}
 use Rattle.job.specs.declared.Vehicle.{Vehicle}
 use Rattle.job.specs.declared.Start.{Start}
@@ -11,6 +12,7 @@ use Rattle.job.specs.declared.Element.{Element}
 use Rattle.job.specs.declared.Job.{Job}
 use Rattle.job_reader.specs.declared.Passed.{Passed}
 use Rattle.job_reader.specs.declared.Passed.the-variants as P
+use Rattle.job_reader.specs.declared.BodyRead.{BodyRead}
 use Rattle.job_reader.specs.declared.UnitRead.{UnitRead}
 use Rattle.job_reader.specs.declared.UnitsRead.{UnitsRead}
 use Rattle.job_reader.specs.declared.VehicleRead.{VehicleRead}
@@ -39,6 +41,9 @@ passedOf (refused n p) = P.Refused n p
 abbrev pub partOf : {A : Type 0} → A → Read A → A
 partOf empty (got a e) = a
 partOf empty (refused n p) = empty
+
+abbrev pub bodyRead : Read Body → BodyRead
+bodyRead x = record { answer = passedOf x; body = partOf emptyBody x }
 
 abbrev pub unitRead : Read VehicleUnit → UnitRead
 unitRead x = record { answer = passedOf x; unit = partOf emptyUnit x }

@@ -1,3 +1,4 @@
 pub mod Worked
 pub mod Record
 pub mod Answers
+pub mod Inner

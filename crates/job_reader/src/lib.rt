@@ -1,7 +1,10 @@
 // Reading a job: fields in order; within one, that it ends and is in shortest form, then its range.
+mod body;
 mod elements;
+mod first;
 mod units;
 
+use job::Body;
 use job::Element;
 use job::Job;
 use job::Start;
@@ -19,6 +22,11 @@ ghost use Rattle.job_reader.specs.Answers.{asPassed, jobRead, ReadEnsure
 pub enum Passed {
     At(Cursor),
     Refused(u8, usize),
+}
+
+pub struct BodyRead {
+    pub answer: Passed,
+    pub body: Body,
 }
 
 pub struct UnitRead {

@@ -1,8 +1,11 @@
-// The vehicle of a record: its units, then the overhang and the half widths.
+// The vehicle of a record: the number that announces it, its units, then the overhang and the half widths.
 use crate::Passed;
 use crate::UnitRead;
 use crate::UnitsRead;
 use crate::VehicleRead;
+use crate::body;
+use crate::first;
+use job::Form;
 use job::Unit;
 use job::Vehicle;
 use number::Cursor;
@@ -35,18 +38,20 @@ fn read_fold(s: &[u8], c: Cursor, first: bool) -> Signed
 fn refused_unit(w: Refusal) -> UnitRead
     ensures { λ r. ⌜ r ≡ unitRead (refused (w .number) (w .place)) ⌝ }
 {
+    let body = job::empty_body();
     UnitRead {
         answer: Passed::Refused(w.number, w.place),
         unit: Unit {
             wheelbase: 0,
             hitch: 0,
             fold: 0,
+            body,
         },
     }
 }
 
-fn read_unit(s: &[u8], c: Cursor, first: bool, last: bool) -> UnitRead
-    ensures { λ r. ⌜ r ≡ unitRead (readUnit first last (now (s .entry)) (c .at)) ⌝ }
+fn read_unit(s: &[u8], c: Cursor, form: Form, first: bool, last: bool) -> UnitRead
+    ensures { λ r. ⌜ r ≡ unitRead (readUnit form first last (now (s .entry)) (c .at)) ⌝ }
 {
     let a = number::read_within(s, c, 4, job::WHEELBASE);
     let Number::Value(wheelbase, c1) = a else {
@@ -60,12 +65,19 @@ fn read_unit(s: &[u8], c: Cursor, first: bool, last: bool) -> UnitRead
     let Signed::Value(fold, c3) = d else {
         return refused_unit(number::signed_refusal(d));
     };
+    let f = body::read_body_of(s, c3, form);
+    let g = f.answer;
+    let Passed::At(c4) = g else {
+        return refused_unit(crate::passed_refusal(g));
+    };
+    let body = f.body;
     UnitRead {
-        answer: Passed::At(c3),
+        answer: Passed::At(c4),
         unit: Unit {
             wheelbase,
             hitch,
             fold,
+            body,
         },
     }
 }
@@ -80,15 +92,15 @@ fn refused_units(w: Refusal) -> UnitsRead
     }
 }
 
-fn read_units(s: &[u8], c: Cursor, count: usize) -> UnitsRead
+fn read_units(s: &[u8], c: Cursor, form: Form, count: usize) -> UnitsRead
     requires { ⌜ UnitsInUse count ⌝ }
-    ensures { λ r. ⌜ r ≡ unitsRead (readUnits count (now (s .entry)) (c .at)) ⌝ }
+    ensures { λ r. ⌜ r ≡ unitsRead (readUnits form count (now (s .entry)) (c .at)) ⌝ }
 {
     let mut units = job::empty_units();
     let mut at = c;
     let mut i = 0;
     while i < count {
-        let r = read_unit(s, at, i == 0, i + 1 == count);
+        let r = read_unit(s, at, form, i == 0, i + 1 == count);
         let a = r.answer;
         let Passed::At(next) = a else {
             return refused_units(crate::passed_refusal(a));
@@ -115,10 +127,10 @@ fn refused_vehicle(w: Refusal) -> VehicleRead
 }
 
 // The overhang and the half widths, which stand once after all units.
-fn read_widths(s: &[u8], c: Cursor, count: usize, units: [Unit; 4]) -> VehicleRead
-    ensures { λ r. ⌜ r ≡ vehicleRead (readWidths count units (now (s .entry)) (c .at)) ⌝ }
+fn read_widths(s: &[u8], c: Cursor, form: Form, count: usize, units: [Unit; 4]) -> VehicleRead
+    ensures { λ r. ⌜ r ≡ vehicleRead (readWidths form count units (now (s .entry)) (c .at)) ⌝ }
 {
-    let a = number::read_within(s, c, 5, job::OVERHANG);
+    let a = number::read_within(s, c, 5, job::overhang_range(form));
     let Number::Value(overhang, c1) = a else {
         return refused_vehicle(number::number_refusal(a));
     };
@@ -133,6 +145,7 @@ fn read_widths(s: &[u8], c: Cursor, count: usize, units: [Unit; 4]) -> VehicleRe
     VehicleRead {
         answer: Passed::At(c3),
         vehicle: Vehicle {
+            form,
             count,
             units,
             overhang,
@@ -145,16 +158,17 @@ fn read_widths(s: &[u8], c: Cursor, count: usize, units: [Unit; 4]) -> VehicleRe
 pub(crate) fn read_vehicle(s: &[u8], c: Cursor) -> VehicleRead
     ensures { λ r. ⌜ r ≡ vehicleRead (readVehicle (now (s .entry)) (c .at)) ⌝ }
 {
-    let a = number::read_within(s, c, 3, job::UNIT_COUNT);
-    let Number::Value(v, c1) = a else {
+    let a = first::read_first(s, c);
+    let Number::Value(n, c1) = a else {
         return refused_vehicle(number::number_refusal(a));
     };
-    let count = v as usize;
-    let us = read_units(s, c1, count);
+    let form = first::announced_form(n);
+    let count = first::announced_count(n);
+    let us = read_units(s, c1, form, count);
     let b = us.answer;
     let Passed::At(c2) = b else {
         return refused_vehicle(crate::passed_refusal(b));
     };
     let units = us.units;
-    read_widths(s, c2, count, units)
+    read_widths(s, c2, form, count, units)
 }

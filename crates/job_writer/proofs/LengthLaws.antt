@@ -16,20 +16,25 @@ use Rattle.number.specs.Signed.{fieldOf, writeSigned}
 use Rattle.number.proofs.GroupLaws.{pick-by}
 use Rattle.number.proofs.FieldCodec.{both, within-most, field-size}
 use Rattle.number.proofs.Widths.{number-width, many-width}
-use Rattle.job.specs.Allowed.{wheelbaseAllowed, hitchMost, hitchAllowed, foldAllowed, overhangAllowed, halfWidthAllowed, coordinateAllowed, headingAllowed, stepAllowed, lengthAllowed, curveAllowed, unitAllowed, widthsAllowed, startAllowed, elementAllowed}
+use Rattle.job.specs.Allowed.{wheelbaseAllowed, hitchMost, hitchAllowed, foldAllowed, overhangMost, overhangAllowed, oldOverhangAllowed, halfWidthAllowed, coordinateAllowed, headingAllowed, stepAllowed, lengthAllowed, curveAllowed, unitAllowed, bodyAllowed, widthsAllowed, startAllowed, elementAllowed}
+use Rattle.job.specs.Announced.{announcing}
 use Rattle.job.specs.Curves.{radiusOf}
 use Rattle.job.specs.Steps.{stepsOf, tally, stepsAllowed}
-use Rattle.job.specs.Faults.{faultOf, unitFault, unitsFault, elementFault, totalFault, elementsFault, judge}
+use Rattle.job.specs.Faults.{faultOf, measuresFault, bodyFault, unitFault, unitFaultAt, unitsFault, elementFault, totalFault, elementsFault, judge}
 use Rattle.job.specs.Empty.{emptyElement}
+use Rattle.job.specs.declared.Body.{Body}
+use Rattle.job.specs.declared.Form.{Form}
+use Rattle.job.specs.declared.Form.the-variants.{Short, Long}
 use Rattle.job.specs.declared.Unit.{Unit as VehicleUnit}
 use Rattle.job.specs.declared.Vehicle.{Vehicle}
 use Rattle.job.specs.declared.Start.{Start}
 use Rattle.job.specs.declared.Element.{Element}
 use Rattle.job.specs.declared.Job.{Job}
+use Rattle.job.proofs.AnnouncedLaws.{announced, announced-most}
 use Rattle.job.proofs.FaultLaws.{first-none, or-none, fault-at, sound, sound-vehicle}
-use Rattle.job.proofs.FieldLaws.{hitch-most, fold-size, heading-sizes, radius-size}
-use Rattle.job_writer.specs.Write.{writeUnit, writeWidths, writeVehicle, writeStart, writeElement, writePath, writeJob}
-use Rattle.job_writer.specs.Length.{unitWidth, widthsWidth, startWidth, elementWidth, longLengths, longestRecord}
+use Rattle.job.proofs.FieldLaws.{hitch-most, overhang-most, fold-size, heading-sizes, radius-size}
+use Rattle.job_writer.specs.Write.{writeThree, writeBody, writeUnit, writeWidths, writeVehicle, writeStart, writeElement, writePath, writeJob}
+use Rattle.job_writer.specs.Length.{bodyWidth, unitWidth, widthsWidth, startWidth, elementWidth, longLengths, longestRecord}
 
 -- a number in a range, by the range's most
 ranged : (k least most v : ℕ) → most < 128 ^ suc k → (leb least v && leb v most) ≡ true → length (writeNumber v) ≤ suc k
@@ -39,33 +44,50 @@ ranged k least most v h t = number-width k v (omega (arith, leb-true v most (bot
 sized : (k most : ℕ) (z : ℤ) → 2 * most < 128 ^ suc k → natAbs z ≤ most → length (writeSigned z) ≤ suc k
 sized k most z h s = number-width k (fieldOf z) (omega (arith, field-size z))
 
-pub unit-length : (first last : Bool) (u : VehicleUnit) → unitAllowed first last u ≡ true → length (writeUnit u) ≤ unitWidth
-unit-length first last u t =
-    let a = both (wheelbaseAllowed (u .wheelbase)) (hitchAllowed last (u .wheelbase) (u .hitch) && foldAllowed first (u .fold)) t in
+three-length : (x y z : ℕ) → length (writeNumber x) ≤ 3 → length (writeNumber y) ≤ 3 → length (writeNumber z) ≤ 3 → length (writeThree x y z) ≤ 3 + 3 + 3
+three-length x y z p q r = omega (
+  arith,
+  length-append (writeNumber x) (writeNumber y ++ writeNumber z),
+  length-append (writeNumber y) (writeNumber z),
+)
+
+body-length : (form : Form) (b : Body) → bodyFault form b ≡ 0 → length (writeBody form b) ≤ bodyWidth
+body-length Short b h = omega arith
+body-length Long b h =
+    let t = or-none (bodyAllowed b) 4 0 h .0 in
+    let a = both (overhangAllowed (b .«front_overhang»)) (overhangAllowed (b .«rear_overhang») && halfWidthAllowed (b .«half_width»)) t in
+    let c = both (overhangAllowed (b .«rear_overhang»)) (halfWidthAllowed (b .«half_width»)) (a .1) in
+    three-length (b .«front_overhang») (b .«rear_overhang») (b .«half_width»)
+    (ranged 2 0 50000 (b .«front_overhang») (omega arith) (a .0))
+    (ranged 2 0 50000 (b .«rear_overhang») (omega arith) (c .0))
+    (ranged 2 1000 20000 (b .«half_width») (omega arith) (c .1))
+
+pub unit-length : (form : Form) (first last : Bool) (u : VehicleUnit) → unitFault form first last u ≡ 0 → length (writeUnit form u) ≤ unitWidth
+unit-length form first last u f =
+    let n = first-none (measuresFault first last u) (bodyFault form (u .body)) f in
+    let a = both (wheelbaseAllowed (u .wheelbase)) (hitchAllowed last (u .wheelbase) (u .hitch) && foldAllowed first (u .fold)) (or-none (unitAllowed first last u) 3 0 (n .0) .0) in
     let b = both (hitchAllowed last (u .wheelbase) (u .hitch)) (foldAllowed first (u .fold)) (a .1) in
     let w : u .wheelbase ≤ 200000 = within-most (record { least = 5000; most = 200000 }) (u .wheelbase) (a .0) in
     let h : natAbs (u .hitch) ≤ 200000 = omega (arith, w, hitch-most last (u .wheelbase), leb-true (natAbs (u .hitch)) (hitchMost last (u .wheelbase)) (b .0)) in
     omega (
       arith,
-      length-append (writeNumber (u .wheelbase)) (writeSigned (u .hitch) ++ writeSigned (u .fold)),
-      length-append (writeSigned (u .hitch)) (writeSigned (u .fold)),
+      length-append (writeNumber (u .wheelbase)) (writeSigned (u .hitch) ++ (writeSigned (u .fold) ++ writeBody form (u .body))),
+      length-append (writeSigned (u .hitch)) (writeSigned (u .fold) ++ writeBody form (u .body)),
+      length-append (writeSigned (u .fold)) (writeBody form (u .body)),
       number-width 2 (u .wheelbase) (omega arith),
       sized 2 200000 (u .hitch) (omega arith) h,
       sized 1 1000 (u .fold) (omega arith) (fold-size first (u .fold) (b .1)),
+      body-length form (u .body) (n .1),
     )
 
 pub widths-length : (v : Vehicle) → widthsAllowed v ≡ true → length (writeWidths v) ≤ widthsWidth
 widths-length v t =
-    let a = both (overhangAllowed (v .overhang)) (halfWidthAllowed (v .«front_half_width») && halfWidthAllowed (v .«rear_half_width»)) t in
+    let a = both (oldOverhangAllowed (v .form) (v .overhang)) (halfWidthAllowed (v .«front_half_width») && halfWidthAllowed (v .«rear_half_width»)) t in
     let b = both (halfWidthAllowed (v .«front_half_width»)) (halfWidthAllowed (v .«rear_half_width»)) (a .1) in
-    omega (
-      arith,
-      length-append (writeNumber (v .overhang)) (writeNumber (v .«front_half_width») ++ writeNumber (v .«rear_half_width»)),
-      length-append (writeNumber (v .«front_half_width»)) (writeNumber (v .«rear_half_width»)),
-      ranged 2 0 50000 (v .overhang) (omega arith) (a .0),
-      ranged 2 1000 20000 (v .«front_half_width») (omega arith) (b .0),
-      ranged 2 1000 20000 (v .«rear_half_width») (omega arith) (b .1),
-    )
+    three-length (v .overhang) (v .«front_half_width») (v .«rear_half_width»)
+    (ranged 2 0 (overhangMost (v .form)) (v .overhang) (omega (arith, overhang-most (v .form))) (a .0))
+    (ranged 2 1000 20000 (v .«front_half_width») (omega arith) (b .0))
+    (ranged 2 1000 20000 (v .«rear_half_width») (omega arith) (b .1))
 
 pub start-length : (s : Start) → startAllowed s ≡ true → length (writeStart s) ≤ startWidth
 start-length s t =
@@ -129,12 +151,12 @@ many-length w m one next end f t (x ∷ xs) h =
     let n = first-none (one t x) (faultOf one next end (next t x) xs) h in
     many-width w m x xs (f t x (n .0)) (many-length w m one next end f (next t x) xs (n .1))
 
-pub units-length : (count : ℕ) (us : List VehicleUnit) → count ≤ 4 → unitsFault count us ≡ 0 → length (writeMany writeUnit (take count us)) ≤ 4 * unitWidth
+pub units-length : (form : Form) (count : ℕ) (us : List VehicleUnit) → count ≤ 4 → unitsFault form count us ≡ 0 → length (writeMany (writeUnit form) (take count us)) ≤ 4 * unitWidth
 unfolding unitsFault
-units-length count us h f = omega (
+units-length form count us h f = omega (
   arith,
   length-take count us,
-  many-length writeUnit unitWidth (unitFault count) (λ i u. i + 1) (λ i. 0) (λ i u t. unit-length (eqb i 0) (eqb (i + 1) count) u (or-none (unitAllowed (eqb i 0) (eqb (i + 1) count) u) 3 0 t .0)) 0 (take count us) f,
+  many-length (writeUnit form) unitWidth (unitFaultAt form count) (λ i u. i + 1) (λ i. 0) (λ i u t. unit-length form (eqb i 0) (eqb (i + 1) count) u t) 0 (take count us) f,
 )
 
 -- elements without a fault, after so many steps: each byte beyond the widths takes 105 of the 2,000
@@ -161,18 +183,20 @@ record-length j h =
     let v = sound-vehicle (j .vehicle) (s .vehicle) in
     let n : j .vehicle .count ≤ 4 = within-most (record { least = 1; most = 4 }) (j .vehicle .count) (v .count) in
     let m : j .count ≤ 64 = within-most (record { least = 1; most = 64 }) (j .count) (s .count) in
-    let us = writeMany writeUnit (take (j .vehicle .count) (j .vehicle .units)) in
+    let first = announcing (j .vehicle .form) (j .vehicle .count) in
+    let fourteen = announced-most first (announced (j .vehicle .form) (j .vehicle .count) (v .count) .allowed) in
+    let us = writeMany (writeUnit (j .vehicle .form)) (take (j .vehicle .count) (j .vehicle .units)) in
     let es = writeMany writeElement (take (j .count) (j .elements)) in
     omega (
       arith,
       length-append (writeVehicle (j .vehicle)) (writeStart (j .start) ++ writePath j),
       length-append (writeStart (j .start)) (writePath j),
-      length-append (writeNumber (j .vehicle .count)) (us ++ writeWidths (j .vehicle)),
+      length-append (writeNumber first) (us ++ writeWidths (j .vehicle)),
       length-append us (writeWidths (j .vehicle)),
       length-append (writeNumber (j .step)) (writeNumber (j .count) ++ es),
       length-append (writeNumber (j .count)) es,
-      number-width 0 (j .vehicle .count) (omega arith),
-      units-length (j .vehicle .count) (j .vehicle .units) n (v .units),
+      number-width 0 first (omega arith),
+      units-length (j .vehicle .form) (j .vehicle .count) (j .vehicle .units) n (v .units),
       widths-length (j .vehicle) (v .widths),
       start-length (j .start) (s .start),
       ranged 2 100 20000 (j .step) (omega arith) (s .step),

@@ -1,81 +1,90 @@
 -- The units, the elements and the whole record, read back as they were written and written as they were read. Assumes nothing.
 use Prim.Native.Nat.{ℕ, zero, suc, _+_, _≤_}
 use mathlib.Core.Path.{_≡_, refl, sym, _∙_, ap}
-use mathlib.Core.List.{List, [], _∷_, _++_}
+use mathlib.Core.List.{List, [], _∷_, _++_, map, map-id}
 use mathlib.Core.Bool.{Bool, true}
 use native.Mathlib.Omega.{arith}
-use lib.ListN.{length, take, length-take}
+use lib.ListN.{length, take, length-take, length-map}
 use lib.Seq.{sets, length-sets}
 use lib.Dec.{eqb}
-use Rattle.number.specs.Read.{Reader, return, many, writeMany}
+use Rattle.number.specs.Read.{Reader, _>>=_, return, many, writeMany}
 use Rattle.number.proofs.Codec.{Codec, bound, placed, returned, tested, lastly, reworded}
-use Rattle.number.proofs.CodecMany.{Each, each, laid}
-use Rattle.number.proofs.FieldCodec.{recast, within-most, within-codec}
-use Rattle.job.specs.Allowed.{unitAllowed, stepAllowed, elementCountAllowed, elementAllowed}
+use Rattle.number.proofs.CodecMany.{Each, each, take-sets, laid}
+use Rattle.number.proofs.FieldCodec.{recast, within-most, field-codec, within-codec}
+use Rattle.job.specs.Announced.{announces, announcedForm, announcedCount, announcing}
+use Rattle.job.specs.Allowed.{unitCountAllowed, widthsAllowed, stepAllowed, elementCountAllowed, elementAllowed}
 use Rattle.job.specs.Steps.{tally, stepsAllowed}
-use Rattle.job.specs.Faults.{orFault, faultOf, unitFault, unitsFault, elementFault, totalFault, elementsFault, vehicleFault, judge}
-use Rattle.job.specs.Empty.{emptyUnits, emptyElements, cleared}
+use Rattle.job.specs.Faults.{faultOf, unitFaultAt, unitsFault, elementFault, totalFault, elementsFault, vehicleFault, judge}
+use Rattle.job.specs.Empty.{emptyUnits, emptyElements, clearedUnit, clearedUnits, cleared}
+use Rattle.job.specs.declared.Form.{Form}
+use Rattle.job.specs.declared.Unit.{Unit as VehicleUnit}
 use Rattle.job.specs.declared.Vehicle.{Vehicle}
 use Rattle.job.specs.declared.Start.{Start}
 use Rattle.job.specs.declared.Element.{Element}
 use Rattle.job.specs.declared.Job.{Job}
+use Rattle.job.proofs.AnnouncedLaws.{announced, announced-by, announced-most}
 use Rattle.job.proofs.FaultLaws.{first-none, or-none, SoundVehicle, sound-vehicle, vehicle-sound, Sound, sound, job-sound}
-use Rattle.job_reader.specs.Record.{readUnitAt, readUnits, readVehicle, readElement, readTotal, readElements, readPath, readRecord}
+use Rattle.job_reader.specs.Record.{readUnitAt, readUnits, readWidths, readVehicle, readElement, readTotal, readElements, readPath, readRecord}
 use Rattle.job_writer.specs.Write.{writeUnit, writeWidths, writeVehicle, writeElement, writePath, writeJob}
-use Rattle.job_writer.proofs.PartCodecs.{unit, widths, start, element}
+use Rattle.job_writer.proofs.PartCodecs.{passed, unit, widths, start, element}
 
--- a test that gives a fault where it fails
-passed : (t : Bool) (n : ℕ) → t ≡ true → orFault t (suc n) 0 ≡ 0
-passed t n h = rw h
-
--- values in a row, each without a fault at its state, and an end without one
-module _ {T A : Type 0} (one : T → Reader A) (w : A → List ℕ) (fault : T → A → ℕ) (next : T → A → T) (end : T → Reader (List A)) (last : T → ℕ) where
+-- values in a row, each without a fault at its state and with nothing to clear, and an end without a fault
+module _ {T A : Type 0} (one : T → Reader A) (w : A → List ℕ) (fault : T → A → ℕ) (clear : A → A) (next : T → A → T) (end : T → Reader (List A)) (last : T → ℕ) where
   abbrev Ok : T → A → Type 0
-  Ok t x = fault t x ≡ 0
+  Ok t x = (fault t x ≡ 0) × (x ≡ clear x)
 
   abbrev Met : T → List A → Type 0
   Met t xs = (xs ≡ []) × (last t ≡ 0)
 
-  to-fault : (k : ℕ) (t : T) (xs : List A) → Each Ok next Met k t xs → (length xs ≡ k) × (faultOf fault next last t xs ≡ 0)
-  unfolding faultOf
-  to-fault zero t xs o = (ap length (o .0), ap (faultOf fault next last t) (o .0) ∙ o .1)
-  to-fault (suc k) t [] o = absurd o
-  to-fault (suc k) t (x ∷ xs) o =
-      let r = to-fault k (next t x) xs (o .1) in
-      (ap suc (r .0), rw (o .0) (r .1))
+  abbrev Row : ℕ → T → List A → Type 0
+  Row k t xs = (length xs ≡ k) × (faultOf fault next last t xs ≡ 0) × (xs ≡ map clear xs)
 
-  of-fault : (k : ℕ) (t : T) (xs : List A) → length xs ≡ k → faultOf fault next last t xs ≡ 0 → Each Ok next Met k t xs
+  to-row : (k : ℕ) (t : T) (xs : List A) → Each Ok next Met k t xs → Row k t xs
   unfolding faultOf
-  of-fault zero t [] n h = (refl, h)
-  of-fault zero t (x ∷ xs) n h = absurd (omega arith)
-  of-fault (suc k) t [] n h = absurd (omega arith)
-  of-fault (suc k) t (x ∷ xs) n h =
-      let f = first-none (fault t x) (faultOf fault next last (next t x) xs) h in
-      (f .0, of-fault k (next t x) xs (omega arith) (f .1))
+  to-row zero t xs o = (ap length (o .0), ap (faultOf fault next last t) (o .0) ∙ o .1, o .0 ∙ ap (map clear) (sym (o .0)))
+  to-row (suc k) t [] o = absurd o
+  to-row (suc k) t (x ∷ xs) o =
+      let r = to-row k (next t x) xs (o .1) in
+      let h : x ≡ clear x = o .0 .1 in
+      let l : xs ≡ map clear xs = r .2 in
+      (ap suc (r .0), rw (o .0 .0) (r .1), cc)
 
-  pub row : ((t : T) → Codec (one t) w (Ok t)) → ((t : T) → Codec (end t) (writeMany w) (Met t)) → (k : ℕ) (t : T) → Codec (many one next end k t) (writeMany w) (λ xs. (length xs ≡ k) × (faultOf fault next last t xs ≡ 0))
-  row c l k t = recast (to-fault k t) (λ xs o. of-fault k t xs (o .0) (o .1)) (each one w Ok next end Met c l k t)
+  of-row : (k : ℕ) (t : T) (xs : List A) → Row k t xs → Each Ok next Met k t xs
+  unfolding faultOf
+  of-row zero t [] o = (refl, o .1)
+  of-row zero t (x ∷ xs) o = absurd (omega arith)
+  of-row (suc k) t [] o = absurd (omega arith)
+  of-row (suc k) t (x ∷ xs) o =
+      let f = first-none (fault t x) (faultOf fault next last (next t x) xs) (o .1) in
+      let e : x ∷ xs ≡ clear x ∷ map clear xs = o .2 in
+      let h : x ≡ clear x = cc in
+      let l : xs ≡ map clear xs = cc in
+      ((f .0, h), of-row k (next t x) xs (omega arith, f .1, l))
+
+  pub row : ((t : T) → Codec (one t) w (Ok t)) → ((t : T) → Codec (end t) (writeMany w) (Met t)) → (k : ℕ) (t : T) → Codec (many one next end k t) (writeMany w) (Row k t)
+  row c l k t = recast (to-row k t) (of-row k t) (each one w Ok next end Met c l k t)
 
 -- nothing is written of an empty row
 no-more : {A : Type 0} (w : A → List ℕ) (xs : List A) → xs ≡ [] → [] ≡ writeMany w xs
 unfolding writeMany
 no-more w xs e = rw e
 
-units : (n : ℕ) → n ≤ 4 → Codec (readUnits n) (λ us. writeMany writeUnit (take n us)) (λ us. ((length (take n us) ≡ n) × (unitsFault n us ≡ 0)) × (us ≡ sets emptyUnits 0 (take n us)))
+units : (form : Form) (n : ℕ) → n ≤ 4 → Codec (readUnits form n) (λ us. writeMany (writeUnit form) (take n us)) (λ us. ((length (take n us) ≡ n) × (unitsFault form n us ≡ 0) × (take n us ≡ map (clearedUnit form) (take n us))) × (us ≡ sets emptyUnits 0 (take n us)))
 unfolding readUnits emptyUnits unitsFault
-units n h =
+units form n h =
     laid emptyUnits n (λ xs o. o .0) h
-    (row (readUnitAt n) writeUnit (unitFault n) (λ i u. i + 1) (λ i. return []) (λ i. 0)
-    (λ i. recast (λ u t. passed (unitAllowed (eqb i 0) (eqb (i + 1) n) u) 3 t) (λ u f. or-none (unitAllowed (eqb i 0) (eqb (i + 1) n) u) 3 0 f .0) (unit (eqb i 0) (eqb (i + 1) n)))
-    (λ i. recast (λ xs o. (o, refl)) (λ xs o. o .0) (reworded (writeMany writeUnit) (λ xs o. no-more writeUnit xs o) (returned [])))
+    (row (readUnitAt form n) (writeUnit form) (unitFaultAt form n) (clearedUnit form) (λ i u. i + 1) (λ i. return []) (λ i. 0)
+    (λ i. unit form (eqb i 0) (eqb (i + 1) n))
+    (λ i. recast (λ xs o. (o, refl)) (λ xs o. o .0) (reworded (writeMany (writeUnit form)) (λ xs o. no-more (writeUnit form) xs o) (returned [])))
     n 0)
 
-elements : (step place n : ℕ) → n ≤ 64 → Codec (readElements step place n) (λ es. writeMany writeElement (take n es)) (λ es. ((length (take n es) ≡ n) × (elementsFault step n es ≡ 0)) × (es ≡ sets emptyElements 0 (take n es)))
+-- an element has nothing to clear
+elements : (step place n : ℕ) → n ≤ 64 → Codec (readElements step place n) (λ es. writeMany writeElement (take n es)) (λ es. ((length (take n es) ≡ n) × (elementsFault step n es ≡ 0) × (take n es ≡ map (λ e. e) (take n es))) × (es ≡ sets emptyElements 0 (take n es)))
 unfolding readElements emptyElements elementsFault
 elements step place n h =
     laid emptyElements n (λ xs o. o .0) h
-    (row (λ t. readElement) writeElement elementFault (tally step) (readTotal place) totalFault
-    (λ t. recast (λ e q. passed (elementAllowed e) 7 q) (λ e f. or-none (elementAllowed e) 7 0 f .0) element)
+    (row (λ t. readElement) writeElement elementFault (λ e. e) (tally step) (readTotal place) totalFault
+    (λ t. recast (λ e q. (passed (elementAllowed e) 7 q, refl)) (λ e f. or-none (elementAllowed e) 7 0 (f .0) .0) element)
     (λ t. recast (λ xs o. (o .1, passed (stepsAllowed t) 8 (o .0))) (λ xs o. (or-none (stepsAllowed t) 8 0 (o .1) .0, o .0)) (reworded (writeMany writeElement) (λ xs o. no-more writeElement xs (o .1)) (tested (stepsAllowed t) 9 place (returned []))))
     n 0)
 
@@ -88,27 +97,67 @@ unfolding emptyElements
 sixty-four = refl
 
 -- as many as are in use
-in-use : {A : Type 0} (l us : List A) (n m : ℕ) → length l ≡ m → n ≤ m → us ≡ sets l 0 (take n us) → length (take n us) ≡ n
-in-use l us n m k h e = omega (arith, length-take n us, ap length e, length-sets l 0 (take n us))
+in-use : {A : Type 0} (l us xs : List A) (n m : ℕ) → length l ≡ m → n ≤ m → us ≡ sets l 0 xs → length (take n us) ≡ n
+in-use l us xs n m k h e = omega (arith, length-take n us, ap length e, length-sets l 0 xs)
 
-pub vehicle : Codec readVehicle writeVehicle (λ v. (vehicleFault v ≡ 0) × (v .units ≡ sets emptyUnits 0 (take (v .count) (v .units))))
+-- where clearing changes nothing, the units in use stay and those after them are empty
+used : (form : Form) (n : ℕ) (us : List VehicleUnit) → n ≤ 4 → us ≡ clearedUnits form n us → (length (take n us) ≡ n) × (take n us ≡ map (clearedUnit form) (take n us))
+used form n us h e =
+    let l = in-use emptyUnits us (map (clearedUnit form) (take n us)) n 4 four h e in
+    let m = length-map (take n us) (clearedUnit form) in
+    (l, ap (take n) e ∙ take-sets emptyUnits (map (clearedUnit form) (take n us)) n (omega arith) (omega (arith, four)))
+
+-- a vehicle of so many units of this form, without a fault and with nothing to clear
+pub record VehicleOk (f : Form) (n : ℕ) (v : Vehicle) : Type 0 where
+  pub form : f ≡ v .form
+  pub count : n ≡ v .count
+  pub units : unitsFault (v .form) (v .count) (v .units) ≡ 0
+  pub cleared : v .units ≡ clearedUnits (v .form) (v .count) (v .units)
+  pub widths : widthsAllowed v ≡ true
+
+abbrev writeMeasures : Vehicle → List ℕ
+writeMeasures v = writeMany (writeUnit (v .form)) (take (v .count) (v .units)) ++ writeWidths v
+
+measures : (f : Form) (n : ℕ) → n ≤ 4 → Codec (readUnits f n >>= (λ us. readWidths f n us)) writeMeasures (VehicleOk f n)
+measures f n h =
+    recast
+    (λ v o. record {
+      form = o .1 .1;
+      count = o .1 .2;
+      units = rw (o .1 .1, o .1 .2) at (o .0 .0 .1);
+      cleared = rw (o .1 .1, o .1 .2) at (o .0 .1 ∙ ap (sets emptyUnits 0) (o .0 .0 .2));
+      widths = o .1 .0;
+    })
+    (λ v o.
+    let c : v .units ≡ clearedUnits f n (v .units) = rw (o .form, o .count) (o .cleared) in
+    let u = used f n (v .units) h c in
+    (((u .0, rw (o .form, o .count) (o .units), u .1), c ∙ ap (sets emptyUnits 0) (sym (u .1))), (o .widths, o .form, o .count, refl)))
+    (reworded writeMeasures
+    (λ v o. rw (o .1 .1, o .1 .2))
+    (bound (λ v. v .units) (units f n h) (λ us _. widths f n us) (λ us v o. sym (o .3))))
+
+-- what stands after the number n that announces it
+behind : (n : ℕ) → announces n ≡ true → Codec (readUnits (announcedForm n) (announcedCount n) >>= (λ us. readWidths (announcedForm n) (announcedCount n) us)) writeMeasures (λ v. (announces n ≡ true) × VehicleOk (announcedForm n) (announcedCount n) v)
+behind n k =
+    recast (λ v o. (k, o)) (λ v o. o .1)
+    (measures (announcedForm n) (announcedCount n) (within-most (record { least = 1; most = 4 }) (announcedCount n) (announced-by n k .0)))
+
+pub vehicle : Codec readVehicle writeVehicle (λ v. (vehicleFault v ≡ 0) × (v .units ≡ clearedUnits (v .form) (v .count) (v .units)))
 unfolding readVehicle
 vehicle =
     recast
     (λ v o.
-    let s : SoundVehicle v = record { count = o .0; units = o .1 .0 .0 .1; widths = o .1 .1 .0 } in
-    (vehicle-sound v s, o .1 .0 .1))
+    let b = o .1 .1 in
+    let c : unitCountAllowed (v .count) ≡ true = ap unitCountAllowed (sym (b .count)) ∙ announced-by (announcing (v .form) (v .count)) (o .0) .0 in
+    let s : SoundVehicle v = record { count = c; units = b .units; widths = b .widths } in
+    (vehicle-sound v s, b .cleared))
     (λ v o.
     let s = sound-vehicle v (o .0) in
-    let n = within-most (record { least = 1; most = 4 }) (v .count) (s .count) in
-    let l = in-use emptyUnits (v .units) (v .count) 4 four n (o .1) in
-    (s .count, (((l, s .units), o .1), (s .widths, refl, refl))))
-    (bound (λ v. v .count) (within-codec 3 (record { least = 1; most = 4 }) (omega arith))
-    (λ n k.
-    reworded (λ v. writeMany writeUnit (take (v .count) (v .units)) ++ writeWidths v)
-    (λ v o. ap (λ (j : ℕ). writeMany writeUnit (take j (v .units)) ++ writeWidths v) (o .1 .1))
-    (bound (λ v. v .units) (units n (within-most (record { least = 1; most = 4 }) n k)) (λ us _. widths n us) (λ us v o. sym (o .2))))
-    (λ n v o. sym (o .1 .1)))
+    let a = announced (v .form) (v .count) (s .count) in
+    (a .allowed, (a .allowed, record { form = a .form; count = a .count; units = s .units; cleared = o .1; widths = s .widths })))
+    (bound (λ v. announcing (v .form) (v .count)) (field-codec 3 announces (λ n t. omega (arith, announced-most n t)))
+    behind
+    (λ n v o. rw (← o .1 .form, ← o .1 .count) (announced-by n (o .0) .1)))
 
 abbrev jobFrom : Vehicle → Start → ℕ → ℕ → List Element → Job
 jobFrom v st d n es = record { vehicle = v; start = st; step = d; count = n; elements = es }
@@ -136,8 +185,8 @@ path v st =
     })
     (λ j o.
     let n = within-most (record { least = 1; most = 64 }) (j .count) (o .count) in
-    let l = in-use emptyElements (j .elements) (j .count) 64 sixty-four n (o .rest) in
-    (o .step, (o .count, (((l, o .elements), o .rest), (refl, rw (o .vehicle, o .start))))))
+    let l = in-use emptyElements (j .elements) (take (j .count) (j .elements)) (j .count) 64 sixty-four n (o .rest) in
+    (o .step, (o .count, (((l, o .elements, sym (map-id (take (j .count) (j .elements)))), o .rest), (refl, rw (o .vehicle, o .start))))))
     (bound (λ j. j .step) (within-codec 7 (record { least = 100; most = 20000 }) (omega arith))
     (λ d _. placed (λ p.
     bound (λ j. j .count) (within-codec 8 (record { least = 1; most = 64 }) (omega arith))

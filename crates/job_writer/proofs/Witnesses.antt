@@ -10,6 +10,7 @@ use mathlib.Core.Bool.{true}
 use Rattle.job.specs.Allowed.{headingAllowed, curveAllowed}
 use Rattle.job.specs.Faults.{faultOf, unitsFault, elementsFault, vehicleFault, judge}
 use Rattle.job.specs.Empty.{emptyUnits, emptyElements, emptyElement}
+use Rattle.job.specs.declared.Form.the-variants.{Short}
 use Rattle.job.specs.declared.Curve.the-variants.{Straight}
 use Rattle.job_reader.specs.Worked.{workedRecord}
 use Rattle.job_reader.proofs.Rows.{workedJob}
@@ -36,7 +37,7 @@ copied = record { most = omega arith; fits = omega arith }
 allowed : Allowed Straight
 allowed = record { allowed = refl }
 
-units-fit : UnitsFit (workedJob .vehicle .units) 1 1
+units-fit : UnitsFit Short (workedJob .vehicle .units) 1 1
 unfolding workedJob writeMany writeGroups writeNumber emptyUnits
 units-fit = record { most = omega arith; ends = omega arith }
 

@@ -25,7 +25,7 @@ pub record OneEncoding : Type 0 where
   pub written : (j : Job) (before : List ℕ) (w : Wrote) (after : List ℕ) → WriteEnsures j before w after
       → judge j ≡ 0 → length (writeJob j) ≤ length before
       → (w ≡ W.Bytes (length (writeJob j))) × (after ≡ sets before 0 (writeJob j))
-  -- and its record, which is bytes, is accepted as that job with its unused entries emptied; a job's arrays have their lengths by its type
+  -- and its record, which is bytes, is accepted as that job with its unused entries emptied, a short job's bodies too; a job's arrays have their lengths by its type
   pub bytes : (j : Job) → length (j .vehicle .units) ≡ 4 → length (j .elements) ≡ 64 → judge j ≡ 0 → Bytes (writeJob j)
   pub accepted : (j : Job) → length (j .vehicle .units) ≡ 4 → length (j .elements) ≡ 64 → judge j ≡ 0
       → (r : JobRead) → ReadEnsures (writeJob j) r → r ≡ record { answer = A.Accepted; job = cleared j }

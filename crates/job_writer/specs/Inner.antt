@@ -9,6 +9,7 @@ use Rattle.job.specs.Allowed.{curveAllowed}
 use Rattle.job.specs.Faults.{judge}
 use Rattle.job.specs.Empty.{emptyElement}
 use Rattle.job.specs.declared.Curve.{Curve}
+use Rattle.job.specs.declared.Form.{Form}
 use Rattle.job.specs.declared.Unit.{Unit as VehicleUnit}
 use Rattle.job.specs.declared.Vehicle.{Vehicle}
 use Rattle.job.specs.declared.Element.{Element}
@@ -24,9 +25,9 @@ pub record Allowed (curve : Curve) : Type 0 where
   pub allowed : curveAllowed curve ≡ true
 
 -- the units in use, and room for their bytes
-pub record UnitsFit (units : List VehicleUnit) (count at : ℕ) : Type 0 where
+pub record UnitsFit (form : Form) (units : List VehicleUnit) (count at : ℕ) : Type 0 where
   pub most : count ≤ 4
-  pub ends : at + length (writeMany writeUnit (take count units)) ≤ 520
+  pub ends : at + length (writeMany (writeUnit form) (take count units)) ≤ 520
 
 pub record VehicleFits (v : Vehicle) (at : ℕ) : Type 0 where
   pub most : v .count ≤ 4

@@ -1,9 +1,13 @@
--- The greatest length of a job's record: the sum of its fields' widths, and one byte more for as many lengths as can need it.
+-- The greatest length of a job's record, short or long: the sum of its fields' widths, and one byte more for as many lengths as can need it.
 use Prim.Native.Nat.{ℕ, _+_, _*_}
 
--- wheelbase, hitch and fold limit
+-- a body's overhangs and half width; a short job's takes none
+abbrev pub bodyWidth : ℕ
+bodyWidth = 3 + 3 + 3
+
+-- wheelbase, hitch, fold limit and body
 abbrev pub unitWidth : ℕ
-unitWidth = 3 + 3 + 2
+unitWidth = 3 + 3 + 2 + bodyWidth
 
 -- overhang and two half widths
 abbrev pub widthsWidth : ℕ
@@ -21,6 +25,6 @@ elementWidth = 3 + 3
 abbrev pub longLengths : ℕ
 longLengths = 19
 
--- the number of units, the units, the widths, the start, the step, the number of elements, the elements
+-- the number that announces the units, the units, the widths, the start, the step, the number of elements, the elements
 abbrev pub longestRecord : ℕ
 longestRecord = 1 + 4 * unitWidth + widthsWidth + startWidth + 3 + 1 + (64 * elementWidth + longLengths)

@@ -1,7 +1,9 @@
 // The encoding of a job, field after field.
 use crate::Encoded;
+use job::Body;
 use job::Curve;
 use job::Element;
+use job::Form;
 use job::Job;
 use job::Side;
 use job::Start;
@@ -13,8 +15,10 @@ ghost use Rattle.number.specs.Read.{writeMany};
 ghost use Rattle.number.specs.Number.{writeNumber};
 ghost use Rattle.number.specs.Signed.{fieldOf, writeSigned};
 ghost use Rattle.number.specs.Inner.{Room};
+ghost use Rattle.job.specs.Announced.{announcing};
 ghost use Rattle.job.specs.Curves.{radiusOf};
-ghost use Rattle.job_writer.specs.Write.{writeUnit, writeWidths, writeVehicle, writeStart, writeElement, writePath, writeJob};
+ghost use Rattle.job.specs.Inner.{UnitsInUse};
+ghost use Rattle.job_writer.specs.Write.{writeThree, writeBody, writeUnit, writeWidths, writeVehicle, writeStart, writeElement, writePath, writeJob};
 ghost use Rattle.job_writer.specs.Encoding.{appended, nothing};
 ghost use Rattle.job_writer.specs.Inner.{Allowed, UnitsFit, VehicleFits, ElementFits, ElementsFit, PathFits, Accepted};
 
@@ -35,26 +39,48 @@ fn put_signed(e: Encoded, z: i32) -> Encoded
     put_number(e, number::field_of(z))
 }
 
-fn put_unit(e: Encoded, u: Unit) -> Encoded
-    requires { ⌜ Room (writeUnit u) (e .at) 520 ⌝ }
-    ensures { λ r. ⌜ r ≡ appended e (writeUnit u) ⌝ }
+fn put_three(e: Encoded, x: u32, y: u32, z: u32) -> Encoded
+    requires { ⌜ Room (writeThree x y z) (e .at) 520 ⌝ }
+    ensures { λ r. ⌜ r ≡ appended e (writeThree x y z) ⌝ }
+{
+    let a = put_number(e, x);
+    let b = put_number(a, y);
+    put_number(b, z)
+}
+
+// A short job's bodies are not written.
+fn put_body(e: Encoded, form: Form, b: Body) -> Encoded
+    requires { ⌜ Room (writeBody form b) (e .at) 520 ⌝ }
+    ensures { λ r. ⌜ r ≡ appended e (writeBody form b) ⌝ }
+{
+    let Form::Long = form else {
+        return e;
+    };
+    put_three(e, b.front_overhang, b.rear_overhang, b.half_width)
+}
+
+fn put_unit(e: Encoded, form: Form, u: Unit) -> Encoded
+    requires { ⌜ Room (writeUnit form u) (e .at) 520 ⌝ }
+    ensures { λ r. ⌜ r ≡ appended e (writeUnit form u) ⌝ }
 {
     let hitch = u.hitch;
     let fold = u.fold;
+    let body = u.body;
     let a = put_number(e, u.wheelbase);
     let b = put_signed(a, hitch);
-    put_signed(b, fold)
+    let d = put_signed(b, fold);
+    put_body(d, form, body)
 }
 
-fn put_units(e: Encoded, units: [Unit; 4], count: usize) -> Encoded
-    requires { ⌜ UnitsFit units count (e .at) ⌝ }
-    ensures { λ r. ⌜ r ≡ appended e (writeMany writeUnit (take count units)) ⌝ }
+fn put_units(e: Encoded, form: Form, units: [Unit; 4], count: usize) -> Encoded
+    requires { ⌜ UnitsFit form units count (e .at) ⌝ }
+    ensures { λ r. ⌜ r ≡ appended e (writeMany (writeUnit form) (take count units)) ⌝ }
 {
     let mut out = e;
     let mut i: usize = 0;
     while i < count {
         let u = units[i];
-        out = put_unit(out, u);
+        out = put_unit(out, form, u);
         i += 1;
     }
     out
@@ -64,9 +90,7 @@ fn put_widths(e: Encoded, v: Vehicle) -> Encoded
     requires { ⌜ Room (writeWidths v) (e .at) 520 ⌝ }
     ensures { λ r. ⌜ r ≡ appended e (writeWidths v) ⌝ }
 {
-    let a = put_number(e, v.overhang);
-    let b = put_number(a, v.front_half_width);
-    put_number(b, v.rear_half_width)
+    put_three(e, v.overhang, v.front_half_width, v.rear_half_width)
 }
 
 fn put_start(e: Encoded, s: Start) -> Encoded
@@ -120,14 +144,27 @@ fn put_elements(e: Encoded, elements: [Element; 64], count: usize) -> Encoded
     out
 }
 
+// The number that announces so many units of a short or a long job.
+fn announcing(form: Form, count: usize) -> u32
+    requires { ⌜ UnitsInUse count ⌝ }
+    ensures { λ r. ⌜ r ≡ announcing form count ⌝ }
+{
+    let n = count as u32;
+    match form {
+        Form::Short => n,
+        Form::Long => n + 10,
+    }
+}
+
 fn put_vehicle(e: Encoded, v: Vehicle) -> Encoded
     requires { ⌜ VehicleFits v (e .at) ⌝ }
     ensures { λ r. ⌜ r ≡ appended e (writeVehicle v) ⌝ }
 {
+    let form = v.form;
     let count = v.count;
     let units = v.units;
-    let a = put_number(e, count as u32);
-    let b = put_units(a, units, count);
+    let a = put_number(e, announcing(form, count));
+    let b = put_units(a, form, units, count);
     put_widths(b, v)
 }
 

@@ -108,7 +108,7 @@ fn read_groups(s: &[u8], from: usize, at: usize, left: u32) -> Groups
 }
 
 // The number at a cursor.
-fn read(s: &[u8], c: Cursor) -> Number
+pub fn read(s: &[u8], c: Cursor) -> Number
     ensures { λ r. ⌜ asNumber r ≡ readNumber (now (s .entry)) (c .at) ⌝ }
 {
     let at = c.at;

@@ -2,7 +2,10 @@
 use mathlib.Core.Path.{_≡_}
 use mir.Syntax.{w32}
 use mir.Val.{toZ, ofZ}
-use Rattle.job_reader.specs.Record.{readUnit}
+use Rattle.job_reader.specs.Record.{readBodyOf, readUnit}
+use Rattle.job_reader.specs.Answers.{beside}
+use Rattle.job_reader.proofs.PartLaws.{shown}
+use Rattle.job.specs.Empty.{emptyBody}
 use borrow.Author.Needs.{needs}
 use Rattle.job_reader.proofs.units.read_unit.Statement.{statement}
 use Rattle.job_reader.proofs.units.read_unit.Tie as tie
@@ -13,6 +16,12 @@ hitch c = search needs
 
 fold : (c : tie.After-known-told3) → toZ w32 (ofZ w32 (c .before .d .given .0 .0)) ≡ c .before .d .given .0 .0
 fold c = search needs
+
+-- the body that was read
+body : (c : tie.After-read-body-of) →
+    let a = c .before .before .before .before .before .before .before .before .before .before .before .before .before .before .before .args in
+    beside (c .read-body-of .result .body) (c .read-body-of .result .answer) ≡ readBodyOf (a .form) (a .s .now) (c .before .before .d .given .0 .1 .0 .at)
+body c = rw (c .read-body-of .ensures) (shown emptyBody _)
 
 read-within-requires : tie.Need-read-within-requires
 read-within-requires c κs = search needs
@@ -74,9 +83,28 @@ returns-3 : tie.Need-returns-3
 unfolding readUnit
 returns-3 c = rw (c .refused-unit3 .ensures, c .before .signed-refusal2 .ensures, ← c .before .before .before .before .before .before .before .before .before .before .before .before .before .read-within .ensures, c .before .before .before .before .before .before .before .before .before .before .before .a .given .1, ← c .before .before .before .before .before .before .before .before .before .hitch-most .ensures, ← c .before .before .before .before .before .before .before .before .read-sized .ensures, c .before .before .before .before .before .before .b .given .1, ← c .before .before .before .before .read-fold .ensures, c .before .before .enum-told3 .given .1)
 
+read-body-of-requires : tie.Need-read-body-of-requires
+read-body-of-requires c κs = search needs
+
+enum-known-g : tie.Need-enum-known-g
+enum-known-g c = search needs
+
+enum-told-4 : tie.Need-enum-told-4
+enum-told-4 c = search needs
+
+passed-refusal-requires : tie.Need-passed-refusal-requires
+passed-refusal-requires c κs = search needs
+
+refused-unit-requires-4 : tie.Need-refused-unit-requires-4
+refused-unit-requires-4 c κs = search needs
+
 returns-4 : tie.Need-returns-4
 unfolding readUnit
-returns-4 c = rw (hitch (c .before .before .before .before), fold c, ← c .before .before .before .before .before .before .before .before .before .before .before .before .read-within .ensures, c .before .before .before .before .before .before .before .before .before .before .a .given .1, ← c .before .before .before .before .before .before .before .before .hitch-most .ensures, ← c .before .before .before .before .before .before .before .read-sized .ensures, c .before .before .before .before .before .b .given .1, ← c .before .before .before .read-fold .ensures, c .before .d .given .1)
+returns-4 c = rw (c .refused-unit4 .ensures, c .before .passed-refusal .ensures, ← c .before .before .before .before .before .before .before .before .before .before .before .before .before .before .before .before .before .read-within .ensures, c .before .before .before .before .before .before .before .before .before .before .before .before .before .before .before .a .given .1, ← c .before .before .before .before .before .before .before .before .before .before .before .before .before .hitch-most .ensures, ← c .before .before .before .before .before .before .before .before .before .before .before .before .read-sized .ensures, c .before .before .before .before .before .before .before .before .before .before .b .given .1, ← c .before .before .before .before .before .before .before .before .read-fold .ensures, c .before .before .before .before .before .before .d .given .1, ← body (c .before .before .before .before), c .before .before .enum-told4 .given .1)
+
+returns-5 : tie.Need-returns-5
+unfolding readUnit
+returns-5 c = rw (hitch (c .before .before .before .before .before .before .before .before .before), fold (c .before .before .before .before .before), ← c .before .before .before .before .before .before .before .before .before .before .before .before .before .before .before .before .before .read-within .ensures, c .before .before .before .before .before .before .before .before .before .before .before .before .before .before .before .a .given .1, ← c .before .before .before .before .before .before .before .before .before .before .before .before .before .hitch-most .ensures, ← c .before .before .before .before .before .before .before .before .before .before .before .before .read-sized .ensures, c .before .before .before .before .before .before .before .before .before .before .b .given .1, ← c .before .before .before .before .before .before .before .before .read-fold .ensures, c .before .before .before .before .before .before .d .given .1, ← body (c .before .before .before .before), c .before .before .g .given .1)
 
 pub read-unit-spec : {M : Type 1} → statement M
 read-unit-spec =
@@ -101,4 +129,10 @@ read-unit-spec =
     signed-refusal-requires-2
     refused-unit-requires-3
     returns-3
-    returns-4)
+    read-body-of-requires
+    enum-known-g
+    enum-told-4
+    passed-refusal-requires
+    refused-unit-requires-4
+    returns-4
+    returns-5)

@@ -8,6 +8,7 @@ use mathlib.Core.List.{List, []}
 use Rattle.number.specs.Read.{Reader, return, many, into}
 use Rattle.number.proofs.ManyLaws.{into-end, into-more, into-refused}
 use Rattle.job.specs.Empty.{emptyUnit}
+use Rattle.job.specs.declared.Form.{Form}
 use Rattle.job.specs.declared.Unit.{Unit as VehicleUnit}
 use Rattle.job_reader.specs.Record.{readUnitAt, readUnits}
 use Rattle.job_reader.specs.Answers.{beside, unitsRead}
@@ -22,20 +23,20 @@ abbrev end : ℕ → Reader (List VehicleUnit)
 end i = return []
 
 -- the units from i on
-abbrev rest : ℕ → ℕ → Reader (List VehicleUnit)
-rest count i = many (readUnitAt count) next end (count - i) i
+abbrev rest : Form → ℕ → ℕ → Reader (List VehicleUnit)
+rest form count i = many (readUnitAt form count) next end (count - i) i
 
 abbrev Inv-loop : tie.InvT-loop
-Inv-loop s count units₀ at₀ i₀ units at i = (i ≤ count) × (into units i (rest count i s (at .at)) ≡ readUnits count s (at₀ .at))
+Inv-loop s form count units₀ at₀ i₀ units at i = (i ≤ count) × (into units i (rest form count i s (at .at)) ≡ readUnits form count s (at₀ .at))
 
 abbrev μ-loop : tie.MeasureT-loop
-μ-loop s count units₀ at₀ i₀ units at i = count - i
+μ-loop s form count units₀ at₀ i₀ units at i = count - i
 
 -- the unit that was read
 unit : (c : tie.After-read-unit Inv-loop μ-loop) →
     let l = c .before .before .loop in
     let a = c .before .before .before .before .before .args in
-    beside (c .read-unit .result .unit) (c .read-unit .result .answer) ≡ readUnitAt (a .count) (l .i) (a .s .now) (l .at .at)
+    beside (c .read-unit .result .unit) (c .read-unit .result .answer) ≡ readUnitAt (a .form) (a .count) (l .i) (a .s .now) (l .at .at)
 unit c = rw (c .read-unit .ensures) (shown emptyUnit _)
 
 empty-units-requires : tie.Need-empty-units-requires Inv-loop μ-loop
@@ -65,10 +66,10 @@ refused-units-requires c κs = search needs
 
 returns : tie.Need-returns Inv-loop μ-loop
 returns c = let l = c .before .before .before .before .before .before .loop in
-    let a = c .before .before .before .before .before .before .before .before .before .args .count in
+    let a = c .before .before .before .before .before .before .before .before .before .args in
     let r = c .before .before .before .before in
     rw (c .refused-units .ensures, c .before .passed-refusal .ensures, c .before .before .enum-told .given .1)
-    (ap unitsRead (sym (into-refused (readUnitAt a) next end _ (l .units) a (l .i) _ (l .i) (c .before .before .before .before .before .loop-test .taken) (sym (ap (beside (r .read-unit .result .unit)) (c .before .before .enum-told .given .1)) ∙ unit r)) ∙ l .inv .1))
+    (ap unitsRead (sym (into-refused (readUnitAt (a .form) (a .count)) next end _ (l .units) (a .count) (l .i) _ (l .i) (c .before .before .before .before .before .loop-test .taken) (sym (ap (beside (r .read-unit .result .unit)) (c .before .before .enum-told .given .1)) ∙ unit r)) ∙ l .inv .1))
 
 mul-units : tie.Need-mul-units Inv-loop μ-loop
 mul-units c = search needs
@@ -84,13 +85,13 @@ loop-less c = search needs
 
 loop-again : tie.Need-loop-again Inv-loop μ-loop
 loop-again c = let l = c .before .before .before .before .before .before .loop in
-    let a = c .before .before .before .before .before .before .before .before .before .args .count in
-    (omega arith, sym (into-more (readUnitAt a) next end _ (l .units) a (l .i) _ (l .i) (c .before .before .before .before .before .loop-test .taken) (sym (ap (beside (c .before .before .before .before .read-unit .result .unit)) (c .before .before .a .given .1)) ∙ unit (c .before .before .before .before))) ∙ l .inv .1)
+    let a = c .before .before .before .before .before .before .before .before .before .args in
+    (omega arith, sym (into-more (readUnitAt (a .form) (a .count)) next end _ (l .units) (a .count) (l .i) _ (l .i) (c .before .before .before .before .before .loop-test .taken) (sym (ap (beside (c .before .before .before .before .read-unit .result .unit)) (c .before .before .a .given .1)) ∙ unit (c .before .before .before .before))) ∙ l .inv .1)
 
 returns-2 : tie.Need-returns-2 Inv-loop μ-loop
 returns-2 c = let l = c .before .loop in
-    let a = c .before .before .before .before .args .count in
-    ap unitsRead (sym (into-end (readUnitAt a) next end _ (l .units) a (l .i) _ (l .i) (c .loop-test .left)) ∙ l .inv .1)
+    let a = c .before .before .before .before .args in
+    ap unitsRead (sym (into-end (readUnitAt (a .form) (a .count)) next end _ (l .units) (a .count) (l .i) _ (l .i) (c .loop-test .left)) ∙ l .inv .1)
 
 pub read-units-spec : {M : Type 1} → statement M
 read-units-spec =

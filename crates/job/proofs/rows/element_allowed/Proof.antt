@@ -1,7 +1,7 @@
--- `job::element_allowed` meets its contract. Assumes nothing.
+-- `job::rows::element_allowed` meets its contract. Assumes nothing.
 use borrow.Author.Needs.{needs}
-use Rattle.job.proofs.element_allowed.Statement.{statement}
-use Rattle.job.proofs.element_allowed.Tie as tie
+use Rattle.job.proofs.rows.element_allowed.Statement.{statement}
+use Rattle.job.proofs.rows.element_allowed.Tie as tie
 
 is-within-requires : tie.Need-is-within-requires
 is-within-requires c κs = search needs

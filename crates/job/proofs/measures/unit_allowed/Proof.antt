@@ -1,10 +1,10 @@
--- `job::unit_allowed` meets its contract. Assumes nothing.
+-- `job::measures::unit_allowed` meets its contract. Assumes nothing.
 use mathlib.Core.Path.{_≡_}
 use mir.Syntax.{w32}
 use mir.Val.{toZ, ofZ}
 use borrow.Author.Needs.{needs}
-use Rattle.job.proofs.unit_allowed.Statement.{statement}
-use Rattle.job.proofs.unit_allowed.Tie as tie
+use Rattle.job.proofs.measures.unit_allowed.Statement.{statement}
+use Rattle.job.proofs.measures.unit_allowed.Tie as tie
 
 is-within-requires : tie.Need-is-within-requires
 is-within-requires c κs = search needs

@@ -1,7 +1,7 @@
--- `job::widths_allowed` meets its contract. Assumes nothing.
+-- `job::measures::body_allowed` meets its contract. Assumes nothing.
 use borrow.Author.Needs.{needs}
-use Rattle.job.proofs.widths_allowed.Statement.{statement}
-use Rattle.job.proofs.widths_allowed.Tie as tie
+use Rattle.job.proofs.measures.body_allowed.Statement.{statement}
+use Rattle.job.proofs.measures.body_allowed.Tie as tie
 
 is-within-requires : tie.Need-is-within-requires
 is-within-requires c κs = search needs
@@ -15,6 +15,6 @@ is-within-requires-3 c κs = search needs
 returns : tie.Need-returns
 returns c = rw (c .before .before .is-within .ensures, c .before .is-within2 .ensures, c .is-within3 .ensures)
 
-pub widths-allowed-spec : {M : Type 1} → statement M
-widths-allowed-spec =
+pub body-allowed-spec : {M : Type 1} → statement M
+body-allowed-spec =
     tie.close (tie.spec is-within-requires is-within-requires-2 is-within-requires-3 returns)
