@@ -17,14 +17,14 @@ divides l p = record { positive = pos-≤ p }
 
 pub hitch-place : HitchPlace
 hitch-place = record {
-  front = λ l limit front d p.
+  front = λ l limit body front d p.
       ap (λ (o : Vec2). plus (rearAxle front d) o) (hitch-rule .front d (pos l) (divides l p))
       ∙ (λ i. record { x = back (front .x) (d .x) i; y = back (front .y) (d .y) i });
-  axle = λ l limit front d p.
+  axle = λ l limit body front d p.
       ap (λ (o : Vec2). plus (rearAxle front d) o) (hitch-rule .axle d (pos l) (divides l p))
       ∙ (λ i. record { x = same (front .x) (d .x) i; y = same (front .y) (d .y) i });
-  midway = λ l h limit front d p.
-      ap (λ (o : Vec2). plus (hitchAt (unitWith l h limit) front d) (plus (rearAxle front d) o)) (hitch-rule .behind d h (pos l) (divides l p))
+  midway = λ l h limit body front d p.
+      ap (λ (o : Vec2). plus (hitchAt (unitWith l h limit body) front d) (plus (rearAxle front d) o)) (hitch-rule .behind d h (pos l) (divides l p))
       ∙ (λ i. record {
         x = twice (front .x) (d .x) (hitchOffset d h (pos l) .x) i;
         y = twice (front .y) (d .y) (hitchOffset d h (pos l) .y) i;

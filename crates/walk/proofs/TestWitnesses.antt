@@ -4,6 +4,8 @@ use mathlib.Core.List.{[], _∷_}
 use Prim.Native.Nat.{ℕ}
 use lib.Dec.{lit<}
 use lib.IntN.{ℤ, pos, negsuc}
+use Rattle.job.specs.declared.Body.{Body}
+use Rattle.job.specs.declared.Form.the-variants.{Long}
 use Rattle.job.specs.declared.Unit.{Unit as VehicleUnit}
 use Rattle.job.specs.declared.Vehicle.{Vehicle}
 use Rattle.job.specs.Faults.{faultOf, unitsFault, vehicleFault}
@@ -21,15 +23,20 @@ station-met = record { xs = lit< tt; ys = lit< tt; gxs = lit< tt; gys = lit< tt 
 path-met : PathLent 1 oneStation
 path-met = record { room = refl }
 
-abbrev unit : ℕ → ℤ → ℤ → VehicleUnit
-unit wheelbase hitch fold = record { wheelbase = wheelbase; hitch = hitch; fold = fold }
+-- a body of the greatest overhangs, and narrow
+abbrev body : Body
+body = record { «front_overhang» = 50000; «rear_overhang» = 50000; «half_width» = 1000 }
 
--- the shortest unit, the longest, hitches ahead of and behind the axle, and the last without one
+abbrev unit : ℕ → ℤ → ℤ → VehicleUnit
+unit wheelbase hitch fold = record { wheelbase = wheelbase; hitch = hitch; fold = fold; body = body }
+
+-- a long job: the shortest unit, the longest, hitches ahead of and behind the axle, and the last without one
 abbrev pub fourUnits : Vehicle
 fourUnits = record {
+  form = Long;
   count = 4;
   units = unit 5000 (pos 5000) (pos 0) ∷ unit 200000 (negsuc 199999) (negsuc 999) ∷ unit 5000 (pos 0) (pos 990) ∷ unit 200000 (pos 0) (pos 0) ∷ [];
-  overhang = 50000;
+  overhang = 0;
   «front_half_width» = 1000;
   «rear_half_width» = 20000;
 }

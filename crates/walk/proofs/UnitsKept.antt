@@ -12,10 +12,11 @@ use Rattle.number.proofs.FieldCodec.{both}
 use Rattle.plane.specs.declared.Vec2.{Vec2}
 use Rattle.plane.specs.Vector.{minus}
 use Rattle.plane.specs.Length.{Near}
+use Rattle.job.specs.declared.Form.{Form}
 use Rattle.job.specs.declared.Unit.{Unit as VehicleUnit}
 use Rattle.job.specs.declared.Vehicle.{Vehicle}
 use Rattle.job.specs.Allowed.{wheelbaseAllowed, hitchAllowed, foldAllowed, unitAllowed}
-use Rattle.job.specs.Faults.{faultOf, unitFault, unitsFault, vehicleFault}
+use Rattle.job.specs.Faults.{faultOf, measuresFault, bodyFault, unitFaultAt, unitsFault, vehicleFault}
 use Rattle.job.proofs.FaultLaws.{sound-vehicle, first-none, or-none}
 use Rattle.unit.specs.Turn.{turnedBy, tooFar, mirrorLine, image, Wheelbase, Turnable}
 use Rattle.unit.proofs.UnitTests.{wheelbase-of, move-of}
@@ -29,19 +30,20 @@ abbrev pub AllWheelbases : List VehicleUnit → Type 0
 AllWheelbases [] = Unit {0}
 AllWheelbases (u ∷ us) = Wheelbase (wheelbaseOf u) × AllWheelbases us
 
-all-wheelbases : (count i : ℕ) (us : List VehicleUnit) → faultOf (unitFault count) (λ k u. k + 1) (λ k. 0) i us ≡ 0 → AllWheelbases us
+all-wheelbases : (form : Form) (count i : ℕ) (us : List VehicleUnit) → faultOf (unitFaultAt form count) (λ k u. k + 1) (λ k. 0) i us ≡ 0 → AllWheelbases us
 unfolding faultOf
-all-wheelbases count i [] h = tt
-all-wheelbases count i (u ∷ us) h =
-    let f = first-none (unitFault count i u) (faultOf (unitFault count) (λ k v. k + 1) (λ k. 0) (i + 1) us) h in
-    let a = or-none (unitAllowed (eqb i 0) (eqb (i + 1) count) u) 3 0 (f .0) .0 in (
+all-wheelbases form count i [] h = tt
+all-wheelbases form count i (u ∷ us) h =
+    let f = first-none (unitFaultAt form count i u) (faultOf (unitFaultAt form count) (λ k v. k + 1) (λ k. 0) (i + 1) us) h in
+    let m = first-none (measuresFault (eqb i 0) (eqb (i + 1) count) u) (bodyFault form (u .body)) (f .0) .0 in
+    let a = or-none (unitAllowed (eqb i 0) (eqb (i + 1) count) u) 3 0 m .0 in (
       wheelbase-of (u .wheelbase) (both (wheelbaseAllowed (u .wheelbase)) (hitchAllowed (eqb (i + 1) count) (u .wheelbase) (u .hitch) && foldAllowed (eqb i 0) (u .fold)) a .0),
-      all-wheelbases count (i + 1) us (f .1),
+      all-wheelbases form count (i + 1) us (f .1),
     )
 
 pub sound-wheelbases : (v : Vehicle) → vehicleSound v ≡ true → AllWheelbases (unitsInUse v)
 unfolding vehicleSound unitsFault
-sound-wheelbases v e = all-wheelbases (v .count) 0 (unitsInUse v) (sound-vehicle v (eqb-true (vehicleFault v) 0 e) .units)
+sound-wheelbases v e = all-wheelbases (v .form) (v .count) 0 (unitsInUse v) (sound-vehicle v (eqb-true (vehicleFault v) 0 e) .units)
 
 -- one unit that turned
 abbrev pub Kept : List VehicleUnit → List Vec2 → List Vec2 → Vec2 → Vec2 → Type 0
