@@ -4,7 +4,7 @@ use Rattle.marks.specs.Requires.{HasPlace, HavePlaces, Counted}
 use Rattle.marks.specs.Count.{pointCapacity}
 use Rattle.marks.specs.Marks.{markWidth}
 
-has-place : HasPlace 5
+has-place : HasPlace 31
 has-place = record { place = omega arith }
 
 have-places : HavePlaces markWidth

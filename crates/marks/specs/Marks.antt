@@ -4,9 +4,9 @@ use mathlib.Core.Bool.{Bool, true, _&&_}
 use lib.Dec.{eqb}
 use Rattle.number.specs.Read.{pick}
 
--- a mark is a byte: so many bits
+-- "Marks become 32 bits wide" (02, N3)
 abbrev pub markWidth : ℕ
-markWidth = 8
+markWidth = 32
 
 abbrev pub hasBit : ℕ → ℕ → Bool
 hasBit p mark = eqb (mark / 2 ^ p % 2) 1

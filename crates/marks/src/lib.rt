@@ -7,19 +7,17 @@ ghost use Rattle.marks.specs.Marks.{withBit, allSet};
 ghost use Rattle.marks.specs.Requires.{HasPlace, HavePlaces};
 
 // One bit for each point.
-pub type Mark = u8;
+pub type Mark = u32;
 
 // As many points as the arrays that hold them have room for.
-pub const POINT_CAPACITY: usize = 6;
+pub const POINT_CAPACITY: usize = 20;
 
-pub const SIX_POINTS: usize = 6;
-
-// How many points the rig of a vehicle has.
+// How many points the rig of a vehicle has: four for each unit, and the wheels' four.
 pub fn point_count(v: Vehicle) -> usize
     requires { ⌜ UnitsInUse (v .count) ⌝ }
     ensures { λ r. ⌜ r ≡ pointCount v ⌝ }
 {
-    SIX_POINTS
+    4 * v.count + 4
 }
 
 // The mark with a point's bit set: added where it is clear, so no other bit changes.

@@ -26,27 +26,30 @@ use Rattle.marks.proofs.CountLaws.{count-fits}
 use Rattle.points.specs.declared.UnitPlace.{UnitPlace}
 use Rattle.points.specs.declared.End.{End}
 use Rattle.points.specs.declared.table.Base.{Base}
-use Rattle.points.specs.declared.table.Base.the-variants.{Front, LastRear}
+use Rattle.points.specs.declared.table.Base.the-variants.{Front, Rear, LastRear}
 use Rattle.points.specs.declared.table.Along.{Along}
-use Rattle.points.specs.declared.table.Along.the-variants.{Overhang, Nothing}
+use Rattle.points.specs.declared.table.Along.the-variants as A
 use Rattle.points.specs.declared.table.Width.{Width}
-use Rattle.points.specs.declared.table.Width.the-variants.{FrontHalf, RearHalf}
+use Rattle.points.specs.declared.table.Width.the-variants as W
 use Rattle.points.specs.declared.table.Row.{Row}
+use Rattle.points.specs.declared.corners.Corner.{Corner}
+use Rattle.points.specs.Corners.{cornerOf}
 use Rattle.points.specs.Ends.{noPlace, noPlaces, placesOf, frontEnd, rearEnd}
 use Rattle.points.specs.Points.{rowAt, alongOf, halfWidth, sideOf, endOf, offsetFrom, pointAt, rigPoints, pointRows, noPoints}
-use Rattle.points.specs.Requires.{PlaceSized, BodySized, RigAt, UnitsSized, EndSized, BaseInUse, OffsetSized}
+use Rattle.points.specs.Requires.{PlaceSized, CornerSized, BodySized, RigAt, UnitsSized, EndSized, BaseInUse, OffsetSized}
 use Rattle.points.proofs.EndLaws.{place-more, places-fit, units-sized}
 use Rattle.points.proofs.TableLaws.{rows-taken, row-in-use}
 use Rattle.points.proofs.Filling.{taken-back, padded}
 
 -- what the selectors of a row pick
-pub along-sized : {v : Vehicle} → BodySized v → (a : Along) → Within 50000 (alongOf v a)
-along-sized b Overhang = record { size = b .overhang }
-along-sized b Nothing = record { size = lit≤ tt }
+pub along-sized : {c : Corner} → CornerSized c → (a : Along) → Within 50000 (alongOf c a)
+along-sized s A.Corner = s .along
+along-sized s A.Nothing = record { size = lit≤ tt }
 
-pub width-sized : {v : Vehicle} → BodySized v → (w : Width) → Within 20000 (halfWidth v w)
-width-sized b FrontHalf = record { size = b .frontHalfWidth }
-width-sized b RearHalf = record { size = b .rearHalfWidth }
+pub width-sized : {v : Vehicle} {c : Corner} → BodySized v → CornerSized c → (w : Width) → Within 20000 (halfWidth v c w)
+width-sized b s W.Corner = s .width
+width-sized b s W.FrontHalf = record { size = b .frontHalfWidth }
+width-sized b s W.RearHalf = record { size = b .rearHalfWidth }
 
 -- with either sign
 pub side-sized : {w : ℤ} (s : Side) → Within 20000 w → Within 20000 (sideOf s w)
@@ -55,6 +58,7 @@ side-sized Right p = search (p, within-neg p)
 
 pub end-sized : {v : Vehicle} {ps : List UnitPlace} (b : Base) → BaseInUse v b → UnitsSized v ps → EndSized (endOf v ps b)
 end-sized (Front i) u p = let s = p .units i (u .unit) in record { place = s .front; wheelbase = s .wheelbase; vector = s .vector }
+end-sized (Rear i) u p = let s = p .units i (u .unit) in record { place = s .rear; wheelbase = s .wheelbase; vector = s .vector }
 end-sized {v} LastRear u p = let s = p .units (v .count - 1) (u .unit) in record { place = s .rear; wheelbase = s .wheelbase; vector = s .vector }
 
 -- a coordinate of an offset: x and y are no larger than l
@@ -116,8 +120,10 @@ offset-sized {e} {a} {s} p =
 
 -- a row's offset is in range
 pub row-asked : {v : Vehicle} {ps : List UnitPlace} (w : Row) → BaseInUse v (w .base) → BodySized v → UnitsSized v ps
-    → OffsetSized (endOf v ps (w .base)) (alongOf v (w .along)) (sideOf (w .side) (halfWidth v (w .width)))
-row-asked w u b p = record { end = end-sized (w .base) u p; along = along-sized b (w .along); side = side-sized (w .side) (width-sized b (w .width)) }
+    → let c = cornerOf v (w .base) in OffsetSized (endOf v ps (w .base)) (alongOf c (w .along)) (sideOf (w .side) (halfWidth v c (w .width)))
+row-asked w u b p =
+    let s = b .corner (w .base) u in
+    record { end = end-sized (w .base) u p; along = along-sized s (w .along); side = side-sized (w .side) (width-sized b s (w .width)) }
 
 -- every point of a rig at a station lies within 160,000,000
 point-sized : {v : Vehicle} {ps : List UnitPlace} (w : Row) → BaseInUse v (w .base) → BodySized v → UnitsSized v ps → PlaceSized 160000000 (pointAt v ps w)
@@ -168,6 +174,7 @@ module _ {v : Vehicle} {ds : List Vec2} {f : Vec2} (a : RigAt v ds f) where
 
   end-same : (b : Base) → endOf v places b ≡ endOf v (placesOf v ds f) b
   end-same (Front i) = ap frontEnd (place-same i)
+  end-same (Rear i) = ap rearEnd (place-same i)
   end-same LastRear = ap rearEnd (place-same (v .count - 1))
 
   point-same : (r : Row) → pointAt v places r ≡ pointAt v (placesOf v ds f) r

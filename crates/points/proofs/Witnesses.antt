@@ -1,5 +1,7 @@
 -- Each requirement of this crate can be met, at the ends of its ranges too.
 use Prim.Native.Nat.{ℕ, zero, suc, _-_, _<_}
+use mathlib.Core.Path.{_≡_, refl}
+use mathlib.Core.Bool.{true}
 use mathlib.Core.List.{List, [], _∷_}
 use native.Mathlib.Omega.{arith}
 use lib.Dec.{lit≤}
@@ -9,9 +11,13 @@ use lib.IntN.{ℤ, pos, negsuc}
 use lib.Signed.{leZ-yes}
 use Rattle.exact.specs.Size.{Within}
 use Rattle.plane.specs.declared.Vec2.{Vec2}
+use Rattle.job.specs.declared.Body.{Body}
+use Rattle.job.specs.declared.Form.the-variants.{Long}
 use Rattle.job.specs.declared.Unit.{Unit as VehicleUnit}
 use Rattle.job.specs.declared.Vehicle.{Vehicle}
 use Rattle.job.specs.Empty.{emptyUnit}
+use Rattle.job.specs.Faults.{faultOf, unitsFault, vehicleFault}
+use Rattle.walk.specs.Tests.{vehicleSound}
 use Rattle.walk.specs.Rig.{zeroVector}
 use Rattle.walk.specs.Inner.{UnitDrawn, HitchReady, RigReady}
 use Rattle.marks.specs.Count.{pointCount}
@@ -19,20 +25,25 @@ use Rattle.marks.proofs.CountLaws.{some-point}
 use Rattle.points.specs.declared.table.Base.the-variants.{Front, LastRear}
 use Rattle.points.specs.Ends.{noPlaces, placesOf}
 use Rattle.points.specs.Points.{rowAt, endOf}
-use Rattle.points.specs.Requires.{PlaceSized, BodySized, RigAt, UnitsSized, EndSized, BaseInUse, OffsetSized, Measured}
+use Rattle.points.specs.Requires.{PlaceSized, UnitInUse, BaseInUse, BodySized, RigAt, UnitsSized, EndSized, OffsetSized, Measured}
 use Rattle.points.proofs.EndLaws.{units-sized}
+use Rattle.points.proofs.SoundRig.{sound-body}
 use Rattle.points.proofs.TableLaws.{row-in-use}
 use Rattle.points.proofs.PointLaws.{end-sized, array-sized}
 
 abbrev vec : ℤ → ℤ → Vec2
 vec a b = record { x = a; y = b }
 
+-- the largest body
+abbrev body : Body
+body = record { «front_overhang» = 50000; «rear_overhang» = 50000; «half_width» = 20000 }
+
 -- the longest unit, with its hitch as far behind the rear axle as may be, and the shortest, with none
 abbrev long : VehicleUnit
-long = record { wheelbase = 200000; hitch = negsuc 199999; fold = pos 0 }
+long = record { wheelbase = 200000; hitch = negsuc 199999; fold = pos 0; body = body }
 
 abbrev short : VehicleUnit
-short = record { wheelbase = 5000; hitch = pos 0; fold = pos 0 }
+short = record { wheelbase = 5000; hitch = pos 0; fold = pos 0; body = body }
 
 long-met : UnitDrawn long (vec (pos 0) (pos 200000))
 long-met =
@@ -50,7 +61,7 @@ short-met =
 
 -- four units, the last the shortest
 abbrev rig : Vehicle
-rig = record { count = 4; units = long ∷ long ∷ long ∷ short ∷ []; overhang = 50000; «front_half_width» = 20000; «rear_half_width» = 20000 }
+rig = record { form = Long; count = 4; units = long ∷ long ∷ long ∷ short ∷ []; overhang = 0; «front_half_width» = 20000; «rear_half_width» = 20000 }
 
 abbrev vectors : List Vec2
 vectors = vec (pos 0) (pos 200000) ∷ vec (pos 0) (pos 200000) ∷ vec (pos 0) (pos 200000) ∷ vec (pos 3000) (negsuc 3999) ∷ []
@@ -71,8 +82,12 @@ units-met (suc (suc (suc (suc i)))) h = absurd (none i h)
     none : (i : ℕ) → suc (suc (suc (suc i))) < 4 → ⊥
     none i h = omega arith
 
+rig-sound : vehicleSound rig ≡ true
+unfolding vehicleSound vehicleFault unitsFault faultOf
+rig-sound = refl
+
 body-met : BodySized rig
-body-met = record { overhang = lit≤ tt; frontHalfWidth = lit≤ tt; rearHalfWidth = lit≤ tt }
+body-met = record { corner = sound-body rig rig-sound refl .corner; frontHalfWidth = lit≤ tt; rearHalfWidth = lit≤ tt }
 
 rig-met : RigReady rig vectors
 rig-met = record { least = lit≤ tt; most = lit≤ tt; units = units-met }
@@ -89,6 +104,9 @@ hitch-met = record { unit = long-met; place = record { x = record { size = lit�
 -- the last of four units, and the first
 last-met : BaseInUse rig LastRear
 last-met = record { most = lit≤ tt; unit = lit≤ tt }
+
+unit-met : UnitInUse rig 3
+unit-met = record { most = lit≤ tt; unit = lit≤ tt }
 
 first-met : BaseInUse rig (Front 0)
 first-met = record { most = lit≤ tt; unit = lit≤ tt }

@@ -1,4 +1,5 @@
 pub mod Ends
+pub mod Corners
 pub mod Points
 pub mod Requires
 pub mod Worked

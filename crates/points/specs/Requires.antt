@@ -1,5 +1,5 @@
 -- What the functions of this crate require of their callers: a rig as the walk's tests let it pass (01, "Why a walk is turned down", 26 and 27).
-use Prim.Native.Nat.{ℕ, _-_, _≤_, _<_}
+use Prim.Native.Nat.{ℕ, _≤_, _<_}
 use mathlib.Core.List.{List}
 use lib.ListN.{getD}
 use lib.IntN.{ℤ, pos, _*ℤ_}
@@ -12,7 +12,8 @@ use Rattle.walk.specs.Inner.{RigReady}
 use Rattle.points.specs.declared.UnitPlace.{UnitPlace}
 use Rattle.points.specs.declared.End.{End}
 use Rattle.points.specs.declared.table.Base.{Base}
-use Rattle.points.specs.declared.table.Base.the-variants.{Front, LastRear}
+use Rattle.points.specs.declared.corners.Corner.{Corner}
+use Rattle.points.specs.Corners.{unitOf, cornerOf}
 use Rattle.points.specs.declared.table.Row.{Row}
 use Rattle.points.specs.Ends.{noPlace}
 
@@ -21,9 +22,22 @@ pub record PlaceSized (b : ℕ) (p : Vec2) : Type 0 where
   pub x : Within b (p .x)
   pub y : Within b (p .y)
 
--- the overhang and the half widths of the job's range
+-- a unit in use, and a base whose unit is in use
+pub record UnitInUse (v : Vehicle) (i : ℕ) : Type 0 where
+  pub most : v .count ≤ 4
+  pub unit : i < v .count
+
+pub record BaseInUse (v : Vehicle) (b : Base) : Type 0 where
+  pub most : v .count ≤ 4
+  pub unit : unitOf v b < v .count
+
+-- a corner and the half widths of the job's range
+pub record CornerSized (c : Corner) : Type 0 where
+  pub along : Within 50000 (c .along)
+  pub width : Within 20000 (c .width)
+
 pub record BodySized (v : Vehicle) : Type 0 where
-  pub overhang : v .overhang ≤ 50000
+  pub corner : (b : Base) → BaseInUse v b → CornerSized (cornerOf v b)
   pub frontHalfWidth : v .«front_half_width» ≤ 20000
   pub rearHalfWidth : v .«rear_half_width» ≤ 20000
 
@@ -51,16 +65,6 @@ pub record EndSized (e : End) : Type 0 where
   pub place : PlaceSized 152000000 (e .place)
   pub wheelbase : Wheelbase (e .wheelbase)
   pub vector : Near (e .d) (e .wheelbase) (pos 2 *ℤ e .wheelbase)
-
--- the unit that a base names
-abbrev pub unitOf : Vehicle → Base → ℕ
-unitOf v (Front i) = i
-unitOf v LastRear = v .count - 1
-
--- a base whose unit is in use
-pub record BaseInUse (v : Vehicle) (b : Base) : Type 0 where
-  pub most : v .count ≤ 4
-  pub unit : unitOf v b < v .count
 
 -- a point a ahead of an end and s to its right
 pub record OffsetSized (e : End) (a s : ℤ) : Type 0 where

@@ -1,6 +1,8 @@
 // The points of a rig that are measured at the stations.
+mod corners;
 mod table;
 
+use crate::corners::Corner;
 use crate::table::Along;
 use crate::table::Base;
 use crate::table::ROWS;
@@ -106,28 +108,27 @@ fn end_of(v: Vehicle, places: [UnitPlace; 4], base: Base) -> End
     requires { ⌜ BaseInUse v base ⌝ }
     ensures { λ r. ⌜ r ≡ endOf v places base ⌝ }
 {
-    match base {
-        Base::Front(i) => front_end(places[i]),
-        Base::LastRear => {
-            let last = v.count - 1;
-            rear_end(places[last])
-        }
+    let place = places[corners::unit_of(v, base)];
+    if corners::is_front(base) {
+        return front_end(place);
     }
+    rear_end(place)
 }
 
-fn along_of(v: Vehicle, along: Along) -> i64
-    ensures { λ r. ⌜ r ≡ alongOf v along ⌝ }
+fn along_of(c: Corner, along: Along) -> i64
+    ensures { λ r. ⌜ r ≡ alongOf c along ⌝ }
 {
     match along {
-        Along::Overhang => exact::wide(v.overhang),
+        Along::Corner => c.along,
         Along::Nothing => 0,
     }
 }
 
-fn half_width(v: Vehicle, width: Width) -> i64
-    ensures { λ r. ⌜ r ≡ halfWidth v width ⌝ }
+fn half_width(v: Vehicle, c: Corner, width: Width) -> i64
+    ensures { λ r. ⌜ r ≡ halfWidth v c width ⌝ }
 {
     match width {
+        Width::Corner => c.width,
         Width::FrontHalf => exact::wide(v.front_half_width),
         Width::RearHalf => exact::wide(v.rear_half_width),
     }
@@ -169,8 +170,9 @@ fn point(v: Vehicle, places: [UnitPlace; 4], row: Row) -> Vec2
     let side = row.side;
     let width = row.width;
     let e = end_of(v, places, base);
-    let ahead = along_of(v, along);
-    let beside = side_of(side, half_width(v, width));
+    let c = corners::corner_of(v, base);
+    let ahead = along_of(c, along);
+    let beside = side_of(side, half_width(v, c, width));
     let offset = offset_from(e, ahead, beside);
     plane::plus(e.place, offset)
 }
@@ -191,7 +193,7 @@ pub fn points(v: Vehicle, d: [Vec2; 4], front: Vec2) -> [Vec2; marks::POINT_CAPA
     all
 }
 
-// Claim: the six points of three worked rigs lie where the paper's table puts them.
+// Claim: the points of worked rigs, short and long, lie where the paper's table puts them.
 pub fn worked_points()
     ensures { λ _. ⌜ WorkedPoints ⌝ }
 {}

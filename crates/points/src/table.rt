@@ -1,20 +1,22 @@
 // The table of the points of a rig: what each is measured from, how far ahead of it and how far beside it.
 use job::Side;
 
-// What a point is measured from: the front point of a unit, counted from 0, or the rear axle of the last unit.
+// What a point is measured from: the front point or the rear axle of a unit, counted from 0, or the rear axle of the last unit.
 pub enum Base {
     Front(usize),
+    Rear(usize),
     LastRear,
 }
 
-// How far ahead of its base a point lies.
+// How far ahead of its base a point lies: as far as the body's corner there, or no way.
 pub enum Along {
-    Overhang,
+    Corner,
     Nothing,
 }
 
-// How far beside its base a point lies: the vehicle's half width at the front or at the rear.
+// How far beside its base a point lies: as far as the body's corner there, or the vehicle's half width at the front wheels or the rear ones.
 pub enum Width {
+    Corner,
     FrontHalf,
     RearHalf,
 }
@@ -31,15 +33,15 @@ pub struct Row {
 pub const ROWS: [Row; marks::POINT_CAPACITY] = [
     Row {
         base: Base::Front(0),
-        along: Along::Overhang,
+        along: Along::Corner,
         side: Side::Left,
-        width: Width::FrontHalf,
+        width: Width::Corner,
     },
     Row {
         base: Base::Front(0),
-        along: Along::Overhang,
+        along: Along::Corner,
         side: Side::Right,
-        width: Width::FrontHalf,
+        width: Width::Corner,
     },
     Row {
         base: Base::Front(0),
@@ -64,5 +66,89 @@ pub const ROWS: [Row; marks::POINT_CAPACITY] = [
         along: Along::Nothing,
         side: Side::Right,
         width: Width::RearHalf,
+    },
+    Row {
+        base: Base::Rear(0),
+        along: Along::Corner,
+        side: Side::Left,
+        width: Width::Corner,
+    },
+    Row {
+        base: Base::Rear(0),
+        along: Along::Corner,
+        side: Side::Right,
+        width: Width::Corner,
+    },
+    Row {
+        base: Base::Front(1),
+        along: Along::Corner,
+        side: Side::Left,
+        width: Width::Corner,
+    },
+    Row {
+        base: Base::Front(1),
+        along: Along::Corner,
+        side: Side::Right,
+        width: Width::Corner,
+    },
+    Row {
+        base: Base::Rear(1),
+        along: Along::Corner,
+        side: Side::Left,
+        width: Width::Corner,
+    },
+    Row {
+        base: Base::Rear(1),
+        along: Along::Corner,
+        side: Side::Right,
+        width: Width::Corner,
+    },
+    Row {
+        base: Base::Front(2),
+        along: Along::Corner,
+        side: Side::Left,
+        width: Width::Corner,
+    },
+    Row {
+        base: Base::Front(2),
+        along: Along::Corner,
+        side: Side::Right,
+        width: Width::Corner,
+    },
+    Row {
+        base: Base::Rear(2),
+        along: Along::Corner,
+        side: Side::Left,
+        width: Width::Corner,
+    },
+    Row {
+        base: Base::Rear(2),
+        along: Along::Corner,
+        side: Side::Right,
+        width: Width::Corner,
+    },
+    Row {
+        base: Base::Front(3),
+        along: Along::Corner,
+        side: Side::Left,
+        width: Width::Corner,
+    },
+    Row {
+        base: Base::Front(3),
+        along: Along::Corner,
+        side: Side::Right,
+        width: Width::Corner,
+    },
+    Row {
+        base: Base::Rear(3),
+        along: Along::Corner,
+        side: Side::Left,
+        width: Width::Corner,
+    },
+    Row {
+        base: Base::Rear(3),
+        along: Along::Corner,
+        side: Side::Right,
+        width: Width::Corner,
     },
 ];

@@ -1,23 +1,20 @@
 -- `points::along_of` meets its contract.
+use Rattle.exact.proofs.Machine.{reread}
 use borrow.Author.Needs.{needs}
-use Rattle.exact.proofs.Machine.{reread-result}
 use Rattle.points.proofs.along_of.Statement.{statement}
 use Rattle.points.proofs.along_of.Tie as tie
 
 enum-told : tie.Need-enum-told
 enum-told c = search needs
 
-wide-requires : tie.Need-wide-requires
-wide-requires c κs = search needs
-
 enum-told-2 : tie.Need-enum-told-2
 enum-told-2 c = search needs
 
 returns : tie.Need-returns
-returns c = rw (c .before .enum-told .given .1) (reread-result (c .wide .ok) (c .wide .ensures))
+returns c = rw (c .before .enum-told .given .1) (search needs)
 
 returns-2 : tie.Need-returns-2
 returns-2 c = rw (c .enum-told2 .given .1)
 
 pub along-of-spec : {M : Type 1} → statement M
-along-of-spec = tie.close (tie.spec enum-told wide-requires enum-told-2 returns returns-2)
+along-of-spec = tie.close (tie.spec enum-told enum-told-2 returns returns-2)

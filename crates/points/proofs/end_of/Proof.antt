@@ -1,61 +1,45 @@
--- `points::end_of` meets its contract: the unit that a base names is in use, so it has its place in the array.
-use Prim.Native.Nat.{_<_}
-use native.Mathlib.Omega.{arith}
+-- `points::end_of` meets its contract.
+use Prim.Native.Nat.{ℕ}
+use mathlib.Core.Path.{sym, _∙_, ap}
+use lib.ListN.{getD}
+use Rattle.points.specs.Ends.{noPlace, frontEnd, rearEnd}
 use borrow.Author.Needs.{needs}
 use Rattle.points.proofs.end_of.Statement.{statement}
 use Rattle.points.proofs.end_of.Tie as tie
 
-there : (c : tie.After-known-told) → c .before .base .given .0 .0 < 4
-there c =
-    let p = c .before .before .before .pre in
-    let u = rw (c .before .base .given .1) at (p .unit) in
-    omega (arith, p .most)
+unit-of-requires : tie.Need-unit-of-requires
+unit-of-requires c κs = search needs
 
-enum-known-base : tie.Need-enum-known-base
-enum-known-base c = search needs
+mul-place : tie.Need-mul-place
+mul-place c = search needs
 
-mul-front-end : tie.Need-mul-front-end
-mul-front-end c = record { fits = omega (arith, there c) }
+array-copy-out-place : tie.Need-array-copy-out-place
+array-copy-out-place c = search needs
 
-array-copy-out-front-end : tie.Need-array-copy-out-front-end
-array-copy-out-front-end c = there c
+is-front-requires : tie.Need-is-front-requires
+is-front-requires c κs = search needs
 
 front-end-requires : tie.Need-front-end-requires
 front-end-requires c κs = search needs
 
-enum-told : tie.Need-enum-told
-enum-told c = search needs
-
-sub-last : tie.Need-sub-last
-sub-last c = search needs
-
-mul-rear-end : tie.Need-mul-rear-end
-mul-rear-end c = search needs
-
-array-copy-out-rear-end : tie.Need-array-copy-out-rear-end
-array-copy-out-rear-end c = search needs
+returns : tie.Need-returns
+returns c = rw (sym (c .before .before .is-front .ensures) ∙ c .before .if1 .taken) (c .front-end .ensures ∙ ap (λ (k : ℕ). frontEnd (getD (c .before .before .before .before .before .args .t2) k noPlace)) (c .before .before .before .before .unit-of .ensures))
 
 rear-end-requires : tie.Need-rear-end-requires
 rear-end-requires c κs = search needs
 
-returns : tie.Need-returns
-returns c = rw (c .before .before .before .base .given .1) (c .front-end .ensures)
-
 returns-2 : tie.Need-returns-2
-returns-2 c = rw (c .before .before .before .enum-told .given .1) (c .rear-end .ensures)
+returns-2 c = rw (sym (c .before .before .is-front .ensures) ∙ c .before .if1 .left) (c .rear-end .ensures ∙ ap (λ (k : ℕ). rearEnd (getD (c .before .before .before .before .before .args .t2) k noPlace)) (c .before .before .before .before .unit-of .ensures))
 
 pub end-of-spec : {M : Type 1} → statement M
 end-of-spec =
     tie.close
     (tie.spec
-    enum-known-base
-    mul-front-end
-    array-copy-out-front-end
+    unit-of-requires
+    mul-place
+    array-copy-out-place
+    is-front-requires
     front-end-requires
-    enum-told
-    sub-last
-    mul-rear-end
-    array-copy-out-rear-end
-    rear-end-requires
     returns
+    rear-end-requires
     returns-2)
