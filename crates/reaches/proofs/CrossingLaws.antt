@@ -1,6 +1,6 @@
 -- A station that no point crosses keeps its cell; two points' crossings commute; the bits above those of the points stay.
 use Prim.Native.Nat.{ℕ, zero, suc, _+_, _≤_, _<_}
-use mathlib.Core.Path.{_≡_, refl, _∙_, ap}
+use mathlib.Core.Path.{_≡_, refl, sym, _∙_, ap}
 use mathlib.Core.Bool.{Bool, true, false, _||_}
 use mathlib.Core.List.{List, [], _∷_}
 use native.Mathlib.Nat.{add-zero, le-of-suc-le-suc, not-suc-le-zero}
@@ -16,7 +16,9 @@ use Rattle.marks.proofs.Bits.{own-bit, other-bit, bits-commute, above-bits}
 use Rattle.path.specs.declared.Station.{Station}
 use Rattle.walk.specs.Rig.{zeroVector}
 use Rattle.reaches.specs.declared.Cell.{Cell}
-use Rattle.reaches.specs.Crossing.{aheadOf, reachOf, crosses, smaller, greater, crossedBy, crossedFrom, someCrosses}
+use Rattle.reaches.specs.Crossing.{aheadOf, reachOf, crosses, smaller, greater, crossedBy, crossedFrom, someCrosses, crossedStation}
+use Rattle.reaches.specs.Cells.{Reaches, cellAt, storeCell}
+use Rattle.reaches.proofs.CellLaws.{store-same}
 use Rattle.reaches.proofs.LeastGreatest.{smaller-any-order, greater-any-order}
 
 neither : (a b : Bool) → (a || b) ≡ false → (a ≡ false) × (b ≡ false)
@@ -49,6 +51,10 @@ none-crosses p s (old ∷ olds) (new ∷ news) c e =
     let n = neither (crosses s old new) (someCrosses s olds news) e in
     rw (not-crossed p s old new c (n .0)) (none-crosses (p + 1) s olds news c (n .1))
 
+-- so the runs are as they should be
+pub left-so : (i : ℕ) (s : Station) (olds news : List Vec2) (r : Reaches) → someCrosses s olds news ≡ false → r ≡ crossedStation i s olds news r
+left-so i s olds news r f = sym (ap (λ (x : Cell). storeCell i x r) (none-crosses 0 s olds news (cellAt i r) f) ∙ store-same i r)
+
 -- what a crossing with the reaches a and b makes of a cell
 abbrev pub entered : ℕ → ℤ → ℤ → Cell → Cell
 entered p a b c = record { left = smaller (c .left) (smaller a b); right = greater (c .right) (greater a b); mark = withBit p (c .mark) }
@@ -78,7 +84,7 @@ crossings-commute p q d s old new old' new' c =
     tests-commute (crosses s old new) (crosses s old' new') (entered p (reachOf s old) (reachOf s new)) (entered q (reachOf s old') (reachOf s new')) c
     (entered-commute p q d (reachOf s old) (reachOf s new) (reachOf s old') (reachOf s new') c)
 
--- "no step touches the top two bits of a mark": nor any from number n on, where the points' numbers lie below n
+-- "no step touches the bits above them" (02, N3): none from number n on, where the points' numbers lie below n
 crossed-above : (n p : ℕ) (s : Station) (old new : Vec2) (c : Cell) → p < n → bitsFrom n (crossedBy p s old new c .mark) ≡ bitsFrom n (c .mark)
 unfolding crossedBy
 crossed-above n p s old new c h = by (crosses s old new)

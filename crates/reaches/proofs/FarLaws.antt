@@ -1,5 +1,5 @@
 -- No point of the rig crosses a station that lies farther off than the rig spreads.
-use Prim.Native.Nat.{ℕ, zero, suc, _+_, _<_}
+use Prim.Native.Nat.{ℕ, zero, suc, zero-le, _+_, _<_}
 use mathlib.Core.Path.{_≡_, refl, sym, _∙_, ap, subst}
 use mathlib.Core.Bool.{Bool, true, false, not, _&&_, _||_}
 use mathlib.Core.List.{List, [], _∷_}
@@ -13,7 +13,7 @@ use lib.ListN.{take, getD}
 use lib.IntN.{ℤ, pos, negsuc, natAbs, negℤ, _+ℤ_, _-ℤ_, _*ℤ_}
 use lib.Signed.{leZ, ltZ, _≤ℤ_}
 use Rattle.exact.specs.Size.{Within}
-use Rattle.exact.proofs.Polynomial.{Expr, _⊕_, _⊖_, _⊗_, neg, lit, var}
+use Rattle.exact.proofs.Polynomial.{Expr, _⊕_, _⊖_, _⊗_, neg, lit, var, ring}
 use Rattle.exact.proofs.Order.{pos-≤, by-contradiction, leZ-true, leZ-false, ltZ-true-≤, ≤ℤ-trans}
 use Rattle.exact.proofs.Sizes.{≤-size, ≥-size, within, within-add, within-sub}
 use Rattle.exact.proofs.Certificate.{NonNeg, _⊞_, _⊠_, _·_, num, hyp, le, le-scaled, never}
@@ -163,7 +163,7 @@ module _ (from : Vec2) (olds news : List Vec2) where
   upto-none = record { old = λ p h. absurd (omega arith); new = λ p h. absurd (omega arith); size = record { size = omega arith } }
 
   -- a bound on the first n, and on the next, is one on n + 1
-  under : (P : ℕ → ℤ) (n : ℕ) (r r' : ℤ) → ((p : ℕ) → p < n → P p ≤ℤ r) → r ≤ℤ r' → P n ≤ℤ r' → (p : ℕ) → p < n + 1 → P p ≤ℤ r'
+  pub under : (P : ℕ → ℤ) (n : ℕ) (r r' : ℤ) → ((p : ℕ) → p < n → P p ≤ℤ r) → r ≤ℤ r' → P n ≤ℤ r' → (p : ℕ) → p < n + 1 → P p ≤ℤ r'
   under P n r r' h k l p m =
       ⊎-elim (λ (e : p ≡ n). subst (λ (q : ℕ). P q ≤ℤ r') (sym e) l) (λ (j : p < n). ≤ℤ-trans (h p j) k) (eq-or-lt-of-le (le-of-suc-le-suc (rw add-one at m)))
 
@@ -177,3 +177,16 @@ module _ (from : Vec2) (olds news : List Vec2) where
         new = under (λ k. apart from (getD news k zeroVector)) n r _ (u .new) (o .most-first) (subst (λ (z : ℤ). z ≤ℤ greater r (greater a b)) q (≤ℤ-trans (i .most-second) (o .most-second)));
         size = greater-sized r (greater a b) (u .size) (greater-sized a b x y);
       }
+
+-- a place is as near to itself as to any other
+none-apart : (x : ℤ) → x -ℤ x ≡ pos 0
+none-apart x = ring (x ∷ []) (var 0 ⊖ var 0) (lit 0) tt
+
+here-near : (a b : Vec2) (r : ℤ) → apart a b ≤ℤ r → apart a a ≤ℤ r
+here-near a b r h = ≤ℤ-trans (rw (none-apart (a .x), none-apart (a .y)) (pos-≤ zero-le)) h
+
+-- a pair that lies too far off: neither of its points crosses
+pub far-pair : (s : Station) → SoundStation s → (near : ℤ) (old new other moved : Vec2) → farOff s old near ≡ true → apart old new ≤ℤ near → apart old other ≤ℤ near → apart old moved ≤ℤ near
+    → (crosses s old new || crosses s other moved) ≡ false
+far-pair s k near old new other moved far p q r =
+    rw (far-move s k old near far old new (here-near old new near p) p, far-move s k old near far other moved q r) refl

@@ -6,3 +6,4 @@ pub mod WidestLaws
 pub mod Tied
 pub mod Witnesses
 pub mod FarLaws
+pub mod PairLaws

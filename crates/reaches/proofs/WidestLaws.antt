@@ -13,6 +13,9 @@ use lib.IntN.{ℤ}
 use lib.Signed.{_≤ℤ_, _<ℤ_, ltZ, ltZ-yes, ≤ℤ-refl, clashℤ}
 use Rattle.exact.proofs.Order.{of-true, ltZ-false, ltZ-true-≤, ≤ℤ-trans}
 use Rattle.number.specs.Read.{pick}
+use Rattle.marks.specs.Count.{pointCount}
+use Rattle.walk.specs.Drawn.{Drawn}
+use Rattle.walk.specs.Tests.{recordSound}
 use Rattle.reaches.specs.declared.Place.{Place}
 use Rattle.reaches.specs.declared.Best.{Best}
 use Rattle.reaches.specs.declared.Best.the-variants.{Nothing, Found}
@@ -48,14 +51,18 @@ lent-room asked r e =
     record { left = leb-true asked _ (q .0); right = leb-true asked _ (s .0); marks = leb-true asked _ (s .1) }
 
 -- the answers
-module _ (count asked : ℕ) (r : Reaches) where
-  pub not-lent : widestLent asked r ≡ false → widestAnswer count asked r ≡ W.Refused 21
+module _ (s : Drawn) (asked : ℕ) (r : Reaches) where
+  pub not-lent : widestLent asked r ≡ false → widestAnswer s asked r ≡ W.Refused 21
   unfolding widestAnswer
   not-lent e = rw e
 
-  pub answered : (b : Best) → widestLent asked r ≡ true → b ≡ widestAmong count asked r → widestAnswer count asked r ≡ answerOf b
+  pub not-sound : widestLent asked r ≡ true → recordSound asked s ≡ false → widestAnswer s asked r ≡ W.Refused 27
   unfolding widestAnswer
-  answered b e f = rw (e, ← f)
+  not-sound e f = rw (e, f)
+
+  pub answered : (b : Best) → widestLent asked r ≡ true → recordSound asked s ≡ true → b ≡ widestAmong (pointCount (s .vehicle)) asked r → widestAnswer s asked r ≡ answerOf b
+  unfolding widestAnswer
+  answered b e f g = rw (e, f, ← g)
 
 -- orders
 ≤-<-trans : {a b c : ℤ} → a ≤ℤ b → b <ℤ c → a <ℤ c
@@ -148,28 +155,33 @@ among-right count zero r = λ i h. absurd (not-suc-le-zero h)
 among-right count (suc n) r = next-right count n r (widestAmong count n r) (among-right count n r)
 
 -- the claim
-module _ (count asked : ℕ) (r : Reaches) where
-  found : (p : Place) → widestAnswer count asked r ≡ W.At p → IsWidest count asked r p
-  unfolding widestAnswer
-  found p = by (widestLent asked r) (widestAmong count asked r) (among-right count asked r)
-    where
-      by : (t : Bool) (b : Best) → Right count asked r b → pick t (answerOf b) (W.Refused 21) ≡ W.At p → IsWidest count asked r p
-      by true Nothing h e = absurd (let z : _≡_ {A = ℕ} 0 1 = cc in omega arith)
-      by true (Found q) h e = let f : q ≡ p = cc in subst (IsWidest count asked r) f h
-      by false b h e = absurd (let z : _≡_ {A = ℕ} 0 1 = cc in omega arith)
+module _ (s : Drawn) (asked : ℕ) (r : Reaches) where
+  abbrev count : ℕ
+  count = pointCount (s .vehicle)
 
-  nowhere : widestAnswer count asked r ≡ W.Refused 24 → NoneComplete count asked r
+  found : (p : Place) → widestAnswer s asked r ≡ W.At p → IsWidest count asked r p
   unfolding widestAnswer
-  nowhere = by (widestLent asked r) (widestAmong count asked r) (among-right count asked r)
+  found p = by (widestLent asked r) (recordSound asked s) (widestAmong count asked r) (among-right count asked r)
     where
-      by : (t : Bool) (b : Best) → Right count asked r b → pick t (answerOf b) (W.Refused 21) ≡ W.Refused 24 → NoneComplete count asked r
-      by true Nothing h e = h
-      by true (Found q) h e = absurd (let z : _≡_ {A = ℕ} 0 1 = cc in omega arith)
-      by false b h e = absurd (let f : _≡_ {A = ℕ} 21 24 = cc in omega arith)
+      by : (t u : Bool) (b : Best) → Right count asked r b → pick t (pick u (answerOf b) (W.Refused 27)) (W.Refused 21) ≡ W.At p → IsWidest count asked r p
+      by true true Nothing h e = absurd (let z : _≡_ {A = ℕ} 0 1 = cc in omega arith)
+      by true true (Found q) h e = let f : q ≡ p = cc in subst (IsWidest count asked r) f h
+      by true false b h e = absurd (let z : _≡_ {A = ℕ} 0 1 = cc in omega arith)
+      by false u b h e = absurd (let z : _≡_ {A = ℕ} 0 1 = cc in omega arith)
 
-  only : widestLent asked r ≡ true → NoneComplete count asked r → widestAnswer count asked r ≡ W.Refused 24
+  nowhere : widestAnswer s asked r ≡ W.Refused 24 → NoneComplete count asked r
   unfolding widestAnswer
-  only e n = rw e (by (widestAmong count asked r) (among-right count asked r))
+  nowhere = by (widestLent asked r) (recordSound asked s) (widestAmong count asked r) (among-right count asked r)
+    where
+      by : (t u : Bool) (b : Best) → Right count asked r b → pick t (pick u (answerOf b) (W.Refused 27)) (W.Refused 21) ≡ W.Refused 24 → NoneComplete count asked r
+      by true true Nothing h e = h
+      by true true (Found q) h e = absurd (let z : _≡_ {A = ℕ} 0 1 = cc in omega arith)
+      by true false b h e = absurd (let f : _≡_ {A = ℕ} 27 24 = cc in omega arith)
+      by false u b h e = absurd (let f : _≡_ {A = ℕ} 21 24 = cc in omega arith)
+
+  only : widestLent asked r ≡ true → recordSound asked s ≡ true → NoneComplete count asked r → widestAnswer s asked r ≡ W.Refused 24
+  unfolding widestAnswer
+  only e f n = rw (e, f) (by (widestAmong count asked r) (among-right count asked r))
     where
       by : (b : Best) → Right count asked r b → answerOf b ≡ W.Refused 24
       by Nothing h = refl

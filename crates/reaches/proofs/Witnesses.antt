@@ -1,5 +1,5 @@
 -- Each requirement of this crate can be met, at the ends of its ranges too.
-use Prim.Native.Nat.{ℕ, _<_}
+use Prim.Native.Nat.{ℕ, _+_, _*_, _/_, _<_}
 use mathlib.Core.Path.{_≡_, refl, sym, subst}
 use mathlib.Core.List.{List, [], _∷_}
 use native.Mathlib.Omega.{arith}
@@ -16,8 +16,8 @@ use Rattle.path.specs.Laying.{PathRuns, SoundStation}
 use Rattle.walk.specs.Drawn.{stationAt}
 use Rattle.walk.specs.Rig.{zeroVector}
 use Rattle.reaches.specs.Cells.{Reaches}
-use Rattle.reaches.specs.Inner.{Room, SizedPoint, Measurable, Movable, Numbered, AllMoves, Crossable, Searchable}
-use Rattle.reaches.specs.Far.{apart, Spread, Sized, BothSized, AllSized, Measured, AtStation}
+use Rattle.reaches.specs.Inner.{Room, SizedPoint, Measurable, Movable, Numbered, AllMoves, Enterable, Crossable, Searchable}
+use Rattle.reaches.specs.Far.{apart, Spread, PairSpread, Sized, BothSized, AllSized, PairsSized, PairMoves, Measured, NearStation, AtStation}
 
 abbrev vec : ℤ → ℤ → Vec2
 vec a b = record { x = a; y = b }
@@ -87,14 +87,33 @@ sized-points-met = record { place = point-met; room = counted-met; old = all-met
 measured-met : Measured corner opposite (pos 640000000)
 measured-met = record { point = measurable-met; near = record { size = lit≤ tt } }
 
-at-station-met : AtStation 0 corner pointCapacity points points opposite (pos 0) runs
-at-station-met = record { moves = moves-met; place = measurable-met; spread = spread-met; left = lit< tt; right = lit< tt; marks = lit< tt }
+-- nor do the points of a pair
+pairs-met : PairSpread (pointCapacity / 2) points points (pos 0)
+pairs-met = record { new = λ k h. together (2 * k) (2 * k) (omega arith) (omega arith); oldRight = λ k h. together (2 * k) (2 * k + 1) (omega arith) (omega arith); newRight = λ k h. together (2 * k) (2 * k + 1) (omega arith) (omega arith); size = record { size = lit≤ tt } }
+  where
+    together : (p q : ℕ) → p < pointCapacity → q < pointCapacity → apart (getD points p zeroVector) (getD points q zeroVector) ≤ℤ pos 0
+    together p q h k = rw (getD-replicate pointCapacity p opposite zeroVector h, getD-replicate pointCapacity q opposite zeroVector k) (leZ-yes tt)
+
+pairs-sized-met : PairsSized (pointCapacity / 2) points points
+pairs-sized-met = record { room = counted-met; old = all-met; new = all-met }
+
+pair-met : PairMoves corner (pos 0) opposite opposite opposite opposite
+pair-met = record { left = movable-met; right = movable-met; newNear = leZ-yes tt; oldRightNear = leZ-yes tt; newRightNear = leZ-yes tt; size = record { size = lit≤ tt } }
+
+enterable-met : Enterable 0 corner pointCapacity points points runs
+enterable-met = record { moves = moves-met; left = lit< tt; right = lit< tt; marks = lit< tt }
+
+near-station-met : NearStation 0 corner pointCapacity points points (pos 0) runs
+near-station-met = record { moves = moves-met; even = refl; pairs = pairs-met; left = lit< tt; right = lit< tt; marks = lit< tt }
+
+at-station-met : AtStation 0 corner pointCapacity points points opposite (pos 0) (pos 0) runs
+at-station-met = record { station = near-station-met; place = measurable-met; spread = spread-met }
 
 stations-met : (i : ℕ) → i < 1 → SoundStation (stationAt path i)
 stations-met i h = let e : i ≡ 0 = omega arith in subst (λ (j : ℕ). SoundStation (stationAt path j)) (sym e) station-met
 
 crossable-met : Crossable 1 path pointCapacity points points runs
-crossable-met = record { lent = refl; room = room-met; stations = stations-met; some = lit< tt; points = counted-met; old = all-met; new = all-met }
+crossable-met = record { lent = refl; room = room-met; stations = stations-met; some = lit< tt; even = refl; points = counted-met; old = all-met; new = all-met }
 
 searchable-met : Searchable markWidth 1 runs
 searchable-met = record { bits = record { places = lit≤ tt }; room = room-met }

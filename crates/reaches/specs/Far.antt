@@ -1,5 +1,6 @@
 -- Stations that no point of the rig can cross in a step, because they lie farther ahead or behind than the rig is long. No answer depends on these definitions: they spare work.
-use Prim.Native.Nat.{ℕ, _<_}
+use Prim.Native.Nat.{ℕ, _+_, _*_, _/_, _<_}
+use mathlib.Core.Path.{_≡_}
 use mathlib.Core.Bool.{Bool, not, _||_}
 use mathlib.Core.List.{List}
 use lib.ListN.{length, getD}
@@ -13,7 +14,7 @@ use Rattle.path.specs.declared.Station.{Station}
 use Rattle.walk.specs.Rig.{zeroVector}
 use Rattle.reaches.specs.Crossing.{aheadOf}
 use Rattle.reaches.specs.Cells.{Reaches}
-use Rattle.reaches.specs.Inner.{SizedPoint, Measurable, AllMoves}
+use Rattle.reaches.specs.Inner.{SizedPoint, Measurable, Movable, AllMoves}
 
 -- how far apart two points lie, east and north together
 abbrev pub apart : Vec2 → Vec2 → ℤ
@@ -27,6 +28,13 @@ farOff s a near = leZ (near *ℤ headingLength) (aheadOf s a) || not (leZ (pos 0
 pub record Spread (from : Vec2) (count : ℕ) (olds news : List Vec2) (r : ℤ) : Type 0 where
   pub old : (p : ℕ) → p < count → apart from (getD olds p zeroVector) ≤ℤ r
   pub new : (p : ℕ) → p < count → apart from (getD news p zeroVector) ≤ℤ r
+  pub size : Within 640000000 r
+
+-- no point of a pair, before the step or after it, lies farther than r from the place of its left one before the step
+pub record PairSpread (pairs : ℕ) (olds news : List Vec2) (r : ℤ) : Type 0 where
+  pub new : (k : ℕ) → k < pairs → apart (getD olds (2 * k) zeroVector) (getD news (2 * k) zeroVector) ≤ℤ r
+  pub oldRight : (k : ℕ) → k < pairs → apart (getD olds (2 * k) zeroVector) (getD olds (2 * k + 1) zeroVector) ≤ℤ r
+  pub newRight : (k : ℕ) → k < pairs → apart (getD olds (2 * k) zeroVector) (getD news (2 * k + 1) zeroVector) ≤ℤ r
   pub size : Within 640000000 r
 
 -- what is asked of the numbers, so that nothing overflows
@@ -43,15 +51,35 @@ pub record AllSized (from : Vec2) (count : ℕ) (olds news : List Vec2) : Type 0
   pub old : (p : ℕ) → p < count → SizedPoint (getD olds p zeroVector)
   pub new : (p : ℕ) → p < count → SizedPoint (getD news p zeroVector)
 
+pub record PairsSized (pairs : ℕ) (olds news : List Vec2) : Type 0 where
+  pub room : Counted (2 * pairs)
+  pub old : (p : ℕ) → p < 2 * pairs → SizedPoint (getD olds p zeroVector)
+  pub new : (p : ℕ) → p < 2 * pairs → SizedPoint (getD news p zeroVector)
+
+-- the moves of a pair at a station
+pub record PairMoves (s : Station) (near : ℤ) (old new oldRight newRight : Vec2) : Type 0 where
+  pub left : Movable s old new
+  pub right : Movable s oldRight newRight
+  pub newNear : apart old new ≤ℤ near
+  pub oldRightNear : apart old oldRight ≤ℤ near
+  pub newRightNear : apart old newRight ≤ℤ near
+  pub size : Within 640000000 near
+
 pub record Measured (s : Station) (a : Vec2) (r : ℤ) : Type 0 where
   pub point : Measurable s a
   pub near : Within 640000000 r
 
--- a step at a station, whose cell is to be written
-pub record AtStation (i : ℕ) (s : Station) (count : ℕ) (olds news : List Vec2) (from : Vec2) (near : ℤ) (r : Reaches) : Type 0 where
+-- a step at a station near the rig, whose cell is to be written
+pub record NearStation (i : ℕ) (s : Station) (count : ℕ) (olds news : List Vec2) (beside : ℤ) (r : Reaches) : Type 0 where
   pub moves : AllMoves s count olds news
-  pub place : Measurable s from
-  pub spread : Spread from count olds news near
+  pub even : 2 * (count / 2) ≡ count
+  pub pairs : PairSpread (count / 2) olds news beside
   pub left : i < length (r .left)
   pub right : i < length (r .right)
   pub marks : i < length (r .marks)
+
+-- the same at any station, with a place that the points spread from
+pub record AtStation (i : ℕ) (s : Station) (count : ℕ) (olds news : List Vec2) (from : Vec2) (near beside : ℤ) (r : Reaches) : Type 0 where
+  pub station : NearStation i s count olds news beside r
+  pub place : Measurable s from
+  pub spread : Spread from count olds news near

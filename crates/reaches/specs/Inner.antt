@@ -1,5 +1,5 @@
 -- What the functions below the entries ask of their callers.
-use Prim.Native.Nat.{ℕ, _<_, _≤_}
+use Prim.Native.Nat.{ℕ, _*_, _/_, _<_, _≤_}
 use mathlib.Core.Path.{_≡_}
 use mathlib.Core.Bool.{true}
 use mathlib.Core.List.{List}
@@ -45,12 +45,20 @@ pub record AllMoves (s : Station) (count : ℕ) (olds news : List Vec2) : Type 0
   pub room : Counted count
   pub move : (p : ℕ) → p < count → Movable s (getD olds p zeroVector) (getD news p zeroVector)
 
--- a step over a path, of a rig that has points
+-- a station whose cell is to be written
+pub record Enterable (i : ℕ) (s : Station) (count : ℕ) (olds news : List Vec2) (r : Reaches) : Type 0 where
+  pub moves : AllMoves s count olds news
+  pub left : i < length (r .left)
+  pub right : i < length (r .right)
+  pub marks : i < length (r .marks)
+
+-- a step over a path, of a rig that has points, left ones and right ones in pairs
 pub record Crossable (asked : ℕ) (path : PathRuns) (count : ℕ) (olds news : List Vec2) (r : Reaches) : Type 0 where
   pub lent : roomFor asked path ≡ true
   pub room : Room asked r
   pub stations : (i : ℕ) → i < asked → SoundStation (stationAt path i)
   pub some : 0 < count
+  pub even : 2 * (count / 2) ≡ count
   pub points : Counted count
   pub old : (p : ℕ) → p < count → SizedPoint (getD olds p zeroVector)
   pub new : (p : ℕ) → p < count → SizedPoint (getD news p zeroVector)

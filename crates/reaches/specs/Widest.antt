@@ -6,8 +6,10 @@ use lib.IntN.{ℤ, _-ℤ_}
 use lib.Signed.{ltZ, _≤ℤ_, _<ℤ_}
 use Rattle.number.specs.Read.{pick}
 use Rattle.job.specs.Allowed.{between}
+use Rattle.marks.specs.Count.{pointCount}
 use Rattle.marks.specs.Marks.{allSet}
-use Rattle.walk.specs.Tests.{reachesLent}
+use Rattle.walk.specs.Drawn.{Drawn}
+use Rattle.walk.specs.Tests.{reachesLent, recordSound}
 use Rattle.reaches.specs.declared.Place.{Place}
 use Rattle.reaches.specs.declared.Cell.{Cell}
 use Rattle.reaches.specs.declared.Best.{Best}
@@ -16,7 +18,7 @@ use Rattle.reaches.specs.declared.WidestAnswer.{WidestAnswer}
 use Rattle.reaches.specs.declared.WidestAnswer.the-variants as W
 use Rattle.reaches.specs.Cells.{Reaches, lengthsOf, cellAt}
 
--- "A station is complete when all six bits are set": the bits of all the rig's points
+-- "complete means all the rig's points" (02, N3): the bits of them all are set
 abbrev pub complete : ℕ → Cell → Bool
 complete count c = allSet count (c .mark)
 
@@ -50,9 +52,14 @@ answerOf (Found p) = W.At p
 unfoldable pub widestLent : ℕ → Reaches → Bool
 widestLent asked r = between 1 2001 asked && reachesLent asked (lengthsOf r)
 
--- "the widest tests 21, 24"
-unfoldable pub widestAnswer : ℕ → ℕ → Reaches → WidestAnswer
-widestAnswer count asked r = pick (widestLent asked r) (answerOf (widestAmong count asked r)) (W.Refused 21)
+-- "The widest therefore takes the walk record too, and tests 27 between 21 and 24" (02, N3); it counts the points of the record's own vehicle
+unfoldable pub widestAnswer : Drawn → ℕ → Reaches → WidestAnswer
+widestAnswer s asked r =
+    pick (widestLent asked r)
+    (pick (recordSound asked s)
+    (answerOf (widestAmong (pointCount (s .vehicle)) asked r))
+    (W.Refused 27))
+    (W.Refused 21)
 
 -- a place that is right to answer: a complete station as it stands in the runs, no complete one wider and none earlier as wide
 pub record IsWidest (count asked : ℕ) (r : Reaches) (p : Place) : Type 0 where
@@ -65,8 +72,9 @@ pub record IsWidest (count asked : ℕ) (r : Reaches) (p : Place) : Type 0 where
 abbrev pub NoneComplete : ℕ → ℕ → Reaches → Type 0
 NoneComplete count asked r = (i : ℕ) → i < asked → complete count (cellAt i r) ≡ false
 
--- the claim, over any runs: a place answered is right; 24 is answered exactly where the runs are lent and no station is complete
+-- the claim, over any record and runs: a place answered is right; 24 is answered exactly where the runs are lent, the record passes 27 and no station is complete
 pub record WidestPlace : Type 0 where
-  pub found : (count asked : ℕ) (r : Reaches) (p : Place) → widestAnswer count asked r ≡ W.At p → IsWidest count asked r p
-  pub nowhere : (count asked : ℕ) (r : Reaches) → widestAnswer count asked r ≡ W.Refused 24 → NoneComplete count asked r
-  pub only : (count asked : ℕ) (r : Reaches) → widestLent asked r ≡ true → NoneComplete count asked r → widestAnswer count asked r ≡ W.Refused 24
+  pub found : (s : Drawn) (asked : ℕ) (r : Reaches) (p : Place) → widestAnswer s asked r ≡ W.At p → IsWidest (pointCount (s .vehicle)) asked r p
+  pub nowhere : (s : Drawn) (asked : ℕ) (r : Reaches) → widestAnswer s asked r ≡ W.Refused 24 → NoneComplete (pointCount (s .vehicle)) asked r
+  pub only : (s : Drawn) (asked : ℕ) (r : Reaches) → widestLent asked r ≡ true → recordSound asked s ≡ true
+      → NoneComplete (pointCount (s .vehicle)) asked r → widestAnswer s asked r ≡ W.Refused 24

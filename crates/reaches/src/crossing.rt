@@ -4,8 +4,10 @@ use marks::POINT_CAPACITY;
 use path::Station;
 use plane::Vec2;
 ghost use mathlib.Core.Path.{_≡_};
+ghost use mathlib.Core.Bool.{_||_};
 ghost use lib.ListN.{take};
-ghost use Rattle.reaches.specs.Crossing.{aheadOf, reachOf, crosses, smaller as smallerZ, greater as greaterZ, crossedBy, crossedFrom, someCrosses};
+ghost use Rattle.reaches.specs.Crossing.{aheadOf, reachOf, crosses, smaller as smallerZ, greater as greaterZ, crossedBy, crossedFrom};
+ghost use Rattle.reaches.specs.Far.{PairMoves};
 ghost use Rattle.reaches.specs.Inner.{Measurable, Movable, Numbered, AllMoves};
 
 // How far ahead of a station a point lies, times the heading's length.
@@ -105,24 +107,24 @@ pub(crate) fn crossed_by_all(
     next
 }
 
-// Whether any point crosses a station. Apart from what a crossing does, so that nothing is copied at the many stations that none crosses.
-pub(crate) fn some_crosses(
+// Whether either point of a pair, left and right, crosses a station; one product tells where both lie too far off.
+// Apart from what a crossing does, and without the arrays of points, so that nothing is copied at the many stations that none crosses.
+pub(crate) fn pair_crosses(
     s: Station,
-    count: usize,
-    olds: [Vec2; POINT_CAPACITY],
-    news: [Vec2; POINT_CAPACITY],
+    near: i64,
+    old: Vec2,
+    new: Vec2,
+    other: Vec2,
+    moved: Vec2,
 ) -> bool
-    requires { ⌜ AllMoves s count olds news ⌝ }
-    ensures { λ r. ⌜ r ≡ someCrosses s (take count olds) (take count news) ⌝ }
+    requires { ⌜ PairMoves s near old new other moved ⌝ }
+    ensures { λ r. ⌜ r ≡ (crosses s old new || crosses s other moved) ⌝ }
 {
-    let mut p: usize = 0;
-    while p < count {
-        let old = olds[p];
-        let new = news[p];
-        if crosses_station(s, old, new) {
-            return true;
-        }
-        p += 1;
+    if crate::far::far_off(s, old, near) {
+        return false;
     }
-    false
+    if crosses_station(s, old, new) {
+        return true;
+    }
+    crosses_station(s, other, moved)
 }

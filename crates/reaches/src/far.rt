@@ -5,7 +5,7 @@ use plane::Vec2;
 ghost use mathlib.Core.Path.{_≡_};
 ghost use lib.IntN.{pos, natAbs};
 ghost use Rattle.reaches.specs.Crossing.{greater as greaterZ};
-ghost use Rattle.reaches.specs.Far.{apart as apartZ, farOff, Spread, Sized, BothSized, AllSized, Measured};
+ghost use Rattle.reaches.specs.Far.{apart as apartZ, farOff, Spread, PairSpread, Sized, BothSized, AllSized, PairsSized, Measured};
 
 fn size(z: i64) -> i64
     requires { ⌜ Sized z ⌝ }
@@ -49,6 +49,30 @@ pub(crate) fn spread(
         let new = news[p];
         most = greater(most, greater(apart(from, old), apart(from, new)));
         p += 1;
+    }
+    most
+}
+
+// As far as the points of any pair, left and right, lie from the place of the left one before the step.
+pub(crate) fn pair_spread(
+    pairs: usize,
+    olds: [Vec2; POINT_CAPACITY],
+    news: [Vec2; POINT_CAPACITY],
+) -> i64
+    requires { ⌜ PairsSized pairs olds news ⌝ }
+    ensures { λ r. ⌜ PairSpread pairs olds news r ⌝ }
+{
+    let mut most: i64 = 0;
+    let mut k: usize = 0;
+    while k < pairs {
+        let p = 2 * k;
+        let from = olds[p];
+        let new = news[p];
+        let other = olds[p + 1];
+        let moved = news[p + 1];
+        let right = greater(apart(from, other), apart(from, moved));
+        most = greater(most, greater(apart(from, new), right));
+        k += 1;
     }
     most
 }

@@ -3,16 +3,17 @@ use marks::Mark;
 use marks::POINT_CAPACITY;
 use path::Station;
 use plane::Vec2;
+use walk::Walk;
 ghost use mathlib.Core.Path.{_≡_};
 ghost use lib.ListN.{take};
 ghost use Rattle.path.specs.Laying.{pathRuns};
 ghost use Rattle.reaches.specs.Cells.{reachRuns, cleared};
 ghost use Rattle.reaches.specs.Crossing.{crossedStation, crossed};
 ghost use Rattle.reaches.specs.Widest.{placeOf, wider as widerOf, considered as consideredOf, widestAmong, widestLent, widestAnswer, WidestPlace};
-ghost use Rattle.marks.specs.Count.{sixPoints};
+ghost use Rattle.walk.specs.Drawn.{view};
 ghost use Rattle.marks.specs.Requires.{HavePlaces};
-ghost use Rattle.reaches.specs.Inner.{Room, Searchable, Crossable};
-ghost use Rattle.reaches.specs.Far.{AtStation};
+ghost use Rattle.reaches.specs.Inner.{Room, Searchable, Enterable, Crossable};
+ghost use Rattle.reaches.specs.Far.{AtStation, NearStation};
 
 mod crossing;
 mod far;
@@ -57,7 +58,64 @@ pub fn clear(asked: usize, left: &mut [i32], right: &mut [i32], marks: &mut [Mar
     }
 }
 
-// A made step at one station, which is not written where no point crosses it; near is how far the points spread from a place.
+// A made step entered at a station that a point crosses.
+fn enter_station(
+    i: usize,
+    s: Station,
+    count: usize,
+    olds: [Vec2; POINT_CAPACITY],
+    news: [Vec2; POINT_CAPACITY],
+    left: &mut [i32],
+    right: &mut [i32],
+    marks: &mut [Mark],
+)
+    requires { ⌜ Enterable i s count olds news (reachRuns (now left) (now right) (now marks)) ⌝ }
+    ensures { λ _. ⌜ reachRuns (now (left .exit)) (now (right .exit)) (now (marks .exit)) ≡ crossedStation i s (take count olds) (take count news) (reachRuns (now (left .entry)) (now (right .entry)) (now (marks .entry))) ⌝ }
+{
+    let cell = Cell {
+        left: left[i],
+        right: right[i],
+        mark: marks[i],
+    };
+    let next = crossing::crossed_by_all(s, count, olds, news, cell);
+    let l = next.left;
+    let r = next.right;
+    left[i] = l;
+    right[i] = r;
+    marks[i] = next.mark;
+}
+
+// A made step at a station near the rig, which is not written where no point crosses it; beside is how far the points of a pair spread.
+fn cross_near_station(
+    i: usize,
+    s: Station,
+    count: usize,
+    olds: [Vec2; POINT_CAPACITY],
+    news: [Vec2; POINT_CAPACITY],
+    beside: i64,
+    left: &mut [i32],
+    right: &mut [i32],
+    marks: &mut [Mark],
+)
+    requires { ⌜ NearStation i s count olds news beside (reachRuns (now left) (now right) (now marks)) ⌝ }
+    ensures { λ _. ⌜ reachRuns (now (left .exit)) (now (right .exit)) (now (marks .exit)) ≡ crossedStation i s (take count olds) (take count news) (reachRuns (now (left .entry)) (now (right .entry)) (now (marks .entry))) ⌝ }
+{
+    let mut k: usize = 0;
+    while k < count / 2 {
+        let p = 2 * k;
+        let old = olds[p];
+        let new = news[p];
+        let other = olds[p + 1];
+        let moved = news[p + 1];
+        if crossing::pair_crosses(s, beside, old, new, other, moved) {
+            enter_station(i, s, count, olds, news, left, right, marks);
+            return;
+        }
+        k += 1;
+    }
+}
+
+// A made step at one station; near is how far the points spread from a place. The arrays of points go on only where the station is not too far off.
 fn cross_station(
     i: usize,
     s: Station,
@@ -66,32 +124,21 @@ fn cross_station(
     news: [Vec2; POINT_CAPACITY],
     from: Vec2,
     near: i64,
+    beside: i64,
     left: &mut [i32],
     right: &mut [i32],
     marks: &mut [Mark],
 )
-    requires { ⌜ AtStation i s count olds news from near (reachRuns (now left) (now right) (now marks)) ⌝ }
+    requires { ⌜ AtStation i s count olds news from near beside (reachRuns (now left) (now right) (now marks)) ⌝ }
     ensures { λ _. ⌜ reachRuns (now (left .exit)) (now (right .exit)) (now (marks .exit)) ≡ crossedStation i s (take count olds) (take count news) (reachRuns (now (left .entry)) (now (right .entry)) (now (marks .entry))) ⌝ }
 {
     if far::far_off(s, from, near) {
         return;
     }
-    if crossing::some_crosses(s, count, olds, news) {
-        let cell = Cell {
-            left: left[i],
-            right: right[i],
-            mark: marks[i],
-        };
-        let next = crossing::crossed_by_all(s, count, olds, news, cell);
-        let l = next.left;
-        let r = next.right;
-        left[i] = l;
-        right[i] = r;
-        marks[i] = next.mark;
-    }
+    cross_near_station(i, s, count, olds, news, beside, left, right, marks);
 }
 
-// A made step at every station asked for, of a rig of so many points.
+// A made step at every station asked for, of a rig of so many points. The middle one by number lies inside a rig of two units or more, so that fewer stations are near than from an end.
 pub fn cross(
     asked: usize,
     xs: &[i32],
@@ -108,12 +155,25 @@ pub fn cross(
     requires { ⌜ Crossable asked (pathRuns (now xs) (now ys) (now gxs) (now gys)) count olds news (reachRuns (now left) (now right) (now marks)) ⌝ }
     ensures { λ _. ⌜ reachRuns (now (left .exit)) (now (right .exit)) (now (marks .exit)) ≡ crossed asked (pathRuns (now (xs .entry)) (now (ys .entry)) (now (gxs .entry)) (now (gys .entry))) (take count olds) (take count news) (reachRuns (now (left .entry)) (now (right .entry)) (now (marks .entry))) ⌝ }
 {
-    let first = olds[0];
-    let near = far::spread(first, count, olds, news);
+    let middle = olds[count / 2];
+    let near = far::spread(middle, count, olds, news);
+    let beside = far::pair_spread(count / 2, olds, news);
     let mut i: usize = 0;
     while i < asked {
         let s = walk::tests::station_at(xs, ys, gxs, gys, i);
-        cross_station(i, s, count, olds, news, first, near, left, right, marks);
+        cross_station(
+            i,
+            s,
+            count,
+            olds,
+            news,
+            middle,
+            near,
+            beside,
+            left,
+            right,
+            marks,
+        );
         i += 1;
     }
 }
@@ -183,18 +243,22 @@ fn widest_lent(asked: usize, left: &[i32], right: &[i32], marks: &[Mark]) -> boo
         & ((asked <= left.len()) & ((asked <= right.len()) & (asked <= marks.len())))
 }
 
-// The widest complete station, or 21, or 24 where none is complete.
-pub fn widest(asked: usize, left: &[i32], right: &[i32], marks: &[Mark]) -> WidestAnswer
-    ensures { λ r. ⌜ r ≡ widestAnswer sixPoints asked (reachRuns (now (left .entry)) (now (right .entry)) (now (marks .entry))) ⌝ }
+// The widest station that all points of a walk's rig have crossed; or 21, then 27, then 24 where there is none.
+pub fn widest(w: Walk, asked: usize, left: &[i32], right: &[i32], marks: &[Mark]) -> WidestAnswer
+    ensures { λ r. ⌜ r ≡ widestAnswer (view w) asked (reachRuns (now (left .entry)) (now (right .entry)) (now (marks .entry))) ⌝ }
 {
-    if widest_lent(asked, left, right, marks) {
-        let best = widest_among(marks::SIX_POINTS, asked, left, right, marks);
-        return match best {
-            Best::Found(p) => WidestAnswer::At(p),
-            Best::Nothing => WidestAnswer::Refused(24),
-        };
+    if !widest_lent(asked, left, right, marks) {
+        return WidestAnswer::Refused(21);
     }
-    WidestAnswer::Refused(21)
+    if !walk::tests::record_sound(asked, w) {
+        return WidestAnswer::Refused(27);
+    }
+    let count = marks::point_count(w.vehicle);
+    let best = widest_among(count, asked, left, right, marks);
+    match best {
+        Best::Found(p) => WidestAnswer::At(p),
+        Best::Nothing => WidestAnswer::Refused(24),
+    }
 }
 
 // Claim: the place answered is complete, no complete station is wider and none earlier as wide; 24 exactly where none is complete.

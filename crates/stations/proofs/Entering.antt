@@ -21,7 +21,7 @@ use Rattle.walk.proofs.PathTests.{path-station}
 use Rattle.walk.proofs.RecordTests.{lent-call, sound-record, not-last}
 use Rattle.walk.proofs.StepKept.{step-rule}
 use Rattle.marks.specs.Count.{pointCount}
-use Rattle.marks.proofs.CountLaws.{count-fits, some-point}
+use Rattle.marks.proofs.CountLaws.{count-fits, some-point, count-even}
 use Rattle.points.specs.Points.{noPoints, rigPoints}
 use Rattle.points.specs.Requires.{RigAt}
 use Rattle.points.proofs.PointLaws.{points-sized, points-taken}
@@ -57,6 +57,7 @@ crossable w w' old new asked p r e =
       room = room-of asked p r (e .lent);
       stations = λ i h. path-station p asked i (e .path) h;
       some = some-point (w .vehicle);
+      even = count-even (w .vehicle);
       points = record { most = count-fits (w .vehicle) (e .before .rig .most) };
       old = sized (e .before) (pointCount (w .vehicle)) refl;
       new = sized (e .after) (pointCount (w .vehicle)) (ap pointCount (e .vehicle));
@@ -64,7 +65,7 @@ crossable w w' old new asked p r e =
 
 -- a rig that has its lengths, at a station of a sound path
 pub rig-at : (w : Walk) (p : PathRuns) (asked i : ℕ) → length (w .vehicle .units) ≡ 4 → Keeping (view w) → pathSound asked p ≡ true → i < asked → RigAt (w .vehicle) (w .d) (stationAt p i .position)
-rig-at w p asked i n k e h = sound-rig (w .vehicle) (w .d) (stationAt p i) (keeping-ready (w .vehicle) (w .d) n (k .vehicle) (k .lengths)) (k .vehicle) (path-station p asked i e h)
+rig-at w p asked i n k e h = sound-rig (w .vehicle) (w .d) (stationAt p i) n (keeping-ready (w .vehicle) (w .d) n (k .vehicle) (k .lengths)) (k .vehicle) (path-station p asked i e h)
 
 -- a step leaves the vehicle
 vehicle-left : (s : Drawn) (t : Turning) → afterTurning s t .state .vehicle ≡ s .vehicle

@@ -32,6 +32,9 @@ mul-right c = search needs
 slice-set-of-right : tie.Need-slice-set-of-right Inv-loop μ-loop
 slice-set-of-right c = search needs
 
+mul-marks : tie.Need-mul-marks Inv-loop μ-loop
+mul-marks c = search needs
+
 slice-write-marks : tie.Need-slice-write-marks Inv-loop μ-loop
 slice-write-marks c = search needs
 
@@ -71,6 +74,7 @@ clear-spec =
     slice-set-of-left
     mul-right
     slice-set-of-right
+    mul-marks
     slice-write-marks
     add-at
     loop-less

@@ -1,5 +1,5 @@
 -- `reaches::cross` meets its contract: after i turns the first i stations are crossed.
-use Prim.Native.Nat.{ℕ, _-_, _≤_}
+use Prim.Native.Nat.{ℕ, _-_, _/_, _≤_, _<_}
 use mathlib.Core.Path.{_≡_, refl, sym, _∙_, ap, subst}
 use mathlib.Core.List.{List}
 use native.Mathlib.Omega.{arith}
@@ -18,7 +18,7 @@ use Rattle.reaches.specs.declared.Cell.{Cell}
 use Rattle.reaches.specs.Cells.{Reaches, reachRuns}
 use Rattle.reaches.specs.Crossing.{crossedFrom, crossedStation, crossed}
 use Rattle.reaches.specs.Inner.{AllMoves}
-use Rattle.reaches.specs.Far.{Spread, AtStation}
+use Rattle.reaches.specs.Far.{Spread, PairSpread, AtStation}
 use Rattle.reaches.proofs.CellLaws.{none-yet, one-more, SameLengths, lengths-of, same-room}
 use Rattle.reaches.proofs.cross.Statement.{statement}
 use Rattle.reaches.proofs.cross.Tie as tie
@@ -28,11 +28,14 @@ abbrev rule : PathRuns → List Vec2 → List Vec2 → ℕ → Cell → Cell
 rule path olds news i c = crossedFrom 0 (stationAt path i) olds news c
 
 abbrev Inv-loop : tie.InvT-loop
-Inv-loop asked xs ys gxs gys count news left₀ right₀ marks₀ olds first near i₀ left right marks i =
+Inv-loop asked xs ys gxs gys count news left₀ right₀ marks₀ olds middle near beside i₀ left right marks i =
     (i ≤ asked) × (reachRuns left right marks ≡ crossed i (pathRuns xs ys gxs gys) (take count olds) (take count news) (reachRuns left₀ right₀ marks₀))
 
 abbrev μ-loop : tie.MeasureT-loop
-μ-loop asked xs ys gxs gys count news left₀ right₀ marks₀ olds first near i₀ left right marks i = asked - i
+μ-loop asked xs ys gxs gys count news left₀ right₀ marks₀ olds middle near beside i₀ left right marks i = asked - i
+
+half-below : {n : ℕ} → 0 < n → n / 2 < n
+half-below h = omega arith
 
 -- at the entry: the path and the runs
 module _ (s : tie.Start Inv-loop μ-loop) where
@@ -52,7 +55,7 @@ module _ (s : tie.Start Inv-loop μ-loop) where
 -- in the loop: the runs so far
 module _ (l : tie.At-loop Inv-loop μ-loop) where
   abbrev s : tie.Start Inv-loop μ-loop
-  s = l .before .before .before .before
+  s = l .before .before .before .before .before
 
   abbrev so-far : Reaches
   so-far = reachRuns (l .loop .left) (l .loop .right) (l .loop .marks)
@@ -60,14 +63,23 @@ module _ (l : tie.At-loop Inv-loop μ-loop) where
   lengths : SameLengths so-far (given s)
   lengths = lengths-of (rule (path s) (moved-from s) (moved-to s)) (l .loop .i) (given s) (l .loop .inv .1)
 
-array-copy-out-first : tie.Need-array-copy-out-first Inv-loop μ-loop
-array-copy-out-first c = search needs
+mul-middle : tie.Need-mul-middle Inv-loop μ-loop
+mul-middle c = search needs
+
+array-copy-out-middle : tie.Need-array-copy-out-middle Inv-loop μ-loop
+array-copy-out-middle c = omega (arith, c .before .pre .points .most)
 
 spread-requires : tie.Need-spread-requires Inv-loop μ-loop
-spread-requires c κs = let y = c .before .before .pre in record { place = y .old 0 (y .some); room = y .points; old = y .old; new = y .new }
+spread-requires c κs = let y = c .before .before .pre in record { place = y .old _ (half-below (y .some)); room = y .points; old = y .old; new = y .new }
+
+pair-spread-requires : tie.Need-pair-spread-requires Inv-loop μ-loop
+pair-spread-requires c κs =
+    let y = c .before .before .before .pre in
+    let e = y .even in
+    record { room = record { most = omega (arith, e, y .points .most) }; old = λ p h. y .old p (omega (arith, e, h)); new = λ p h. y .new p (omega (arith, e, h)) }
 
 loop-holds : tie.Need-loop-holds Inv-loop μ-loop
-loop-holds c = let s = c .before .before .before in (omega arith, sym (none-yet (rule (path s) (moved-from s) (moved-to s)) (given s)))
+loop-holds c = let s = c .before .before .before .before in (omega arith, sym (none-yet (rule (path s) (moved-from s) (moved-to s)) (given s)))
 
 station-at-requires : tie.Need-station-at-requires Inv-loop μ-loop
 station-at-requires c κs =
@@ -86,23 +98,29 @@ module _ (c : tie.In-loop Inv-loop μ-loop) where
       record { room = y .points; move = λ p h. record { station = y .stations (c .before .loop .i) (c .loop-test .taken); from = y .old p h; to = y .new p h } }
 
   abbrev near : ℤ
-  near = reread (c .before .before .spread .result)
+  near = reread (c .before .before .before .spread .result)
 
-  exact-near : near ≡ c .before .before .spread .result
+  exact-near : near ≡ c .before .before .before .spread .result
   exact-near = search needs
 
-  at-station : let a = s (c .before) .args in AtStation (c .before .loop .i) here (a .count) (a .t7) (a .news) (getD (a .t7) 0 zeroVector) near (so-far (c .before))
+  abbrev beside : ℤ
+  beside = reread (c .before .before .pair-spread .result)
+
+  exact-beside : beside ≡ c .before .before .pair-spread .result
+  exact-beside = search needs
+
+  at-station : let a = s (c .before) .args in AtStation (c .before .loop .i) here (a .count) (a .t7) (a .news) (getD (a .t7) (a .count / 2) zeroVector) near beside (so-far (c .before))
   at-station =
       let r = same-room (lengths (c .before)) (s (c .before) .pre .room) in
       let t = c .loop-test .taken in
-      record { moves = moves; place = record { station = moves .move 0 (s (c .before) .pre .some) .station; point = moves .move 0 (s (c .before) .pre .some) .from }; spread = subst (Spread (getD (s (c .before) .args .t7) 0 zeroVector) (s (c .before) .args .count) (s (c .before) .args .t7) (s (c .before) .args .news)) (sym exact-near) (c .before .before .spread .ensures); left = omega (arith, r .left); right = omega (arith, r .right); marks = omega (arith, r .marks) }
+      record { station = record { moves = moves; even = s (c .before) .pre .even; pairs = subst (PairSpread (s (c .before) .args .count / 2) (s (c .before) .args .t7) (s (c .before) .args .news)) (sym exact-beside) (c .before .before .pair-spread .ensures); left = omega (arith, r .left); right = omega (arith, r .right); marks = omega (arith, r .marks) }; place = record { station = moves .move _ (half-below (s (c .before) .pre .some)) .station; point = moves .move _ (half-below (s (c .before) .pre .some)) .from }; spread = subst (Spread (getD (s (c .before) .args .t7) (s (c .before) .args .count / 2) zeroVector) (s (c .before) .args .count) (s (c .before) .args .t7) (s (c .before) .args .news)) (sym exact-near) (c .before .before .before .spread .ensures) }
 
 cross-station-requires : tie.Need-cross-station-requires Inv-loop μ-loop
 cross-station-requires c κs =
     let m = c .before .before .before in
     let i = m .before in
     let a = s (i .before) .args in
-    subst (λ (p : Station). AtStation (i .before .loop .i) p (a .count) (a .t7) (a .news) (getD (a .t7) 0 zeroVector) (near i) (so-far (i .before))) (sym (m .station-at .ensures)) (at-station i)
+    subst (λ (p : Station). AtStation (i .before .loop .i) p (a .count) (a .t7) (a .news) (getD (a .t7) (a .count / 2) zeroVector) (near i) (beside i) (so-far (i .before))) (sym (m .station-at .ensures)) (at-station i)
 
 add-i : tie.Need-add-i Inv-loop μ-loop
 add-i c = search needs
@@ -141,8 +159,10 @@ cross-spec =
     (tie.spec
     Inv-loop
     μ-loop
-    array-copy-out-first
+    mul-middle
+    array-copy-out-middle
     spread-requires
+    pair-spread-requires
     loop-holds
     station-at-requires
     cross-station-requires

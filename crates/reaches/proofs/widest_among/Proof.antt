@@ -34,8 +34,11 @@ mul-t13 c = search needs
 shared-slice-copy-out-t15 : tie.Need-shared-slice-copy-out-t15 Inv-loop μ-loop
 shared-slice-copy-out-t15 c = search needs
 
-shared-slice-read-t17 : tie.Need-shared-slice-read-t17 Inv-loop μ-loop
-shared-slice-read-t17 c = search needs
+mul-t16 : tie.Need-mul-t16 Inv-loop μ-loop
+mul-t16 c = search needs
+
+shared-slice-read-t18 : tie.Need-shared-slice-read-t18 Inv-loop μ-loop
+shared-slice-read-t18 c = search needs
 
 considered-requires : tie.Need-considered-requires Inv-loop μ-loop
 considered-requires c κs = search needs
@@ -72,7 +75,8 @@ widest-among-spec =
     shared-slice-copy-out-t12
     mul-t13
     shared-slice-copy-out-t15
-    shared-slice-read-t17
+    mul-t16
+    shared-slice-read-t18
     considered-requires
     add-i
     loop-less

@@ -64,7 +64,7 @@ module _ (p : tie.After-points2) where
 cross-requires : tie.Need-cross-requires
 cross-requires c κs =
     let m = measured (c .before .before .before) in
-    record { lent = m .lent; room = m .room; stations = m .stations; some = m .some; points = m .points; old = λ k h. search (m .old k h, m .new k h); new = λ k h. search (m .old k h, m .new k h) }
+    record { lent = m .lent; room = m .room; stations = m .stations; some = m .some; even = m .even; points = m .points; old = λ k h. search (m .old k h, m .new k h); new = λ k h. search (m .old k h, m .new k h) }
 
 same-length : tie.Need-same-length
 same-length c = search needs
