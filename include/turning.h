@@ -6,6 +6,20 @@
  * which is tested first, the answer is 21 and nothing is written. Entries past those named below are never
  * written. Nothing is kept between calls.
  *
+ * The bytes of a job are the record of a short job, whose first number is the number of units, 1 to 4, or of
+ * a long one, whose first number is ten more: 11 to 14. A long job has, after each unit's fold limit, the
+ * fields of its body, front overhang, rear overhang and half width; the front overhang after all units is
+ * then 0. A body of a short job has overhangs 0 and the rear half width, but points 0 and 1 have the front
+ * overhang and the front half width that stand after all units.
+ *
+ * A rig of n units has 4n + 4 points that count, even numbers left, odd ones right:
+ *   0, 1            the front corners of the first unit's body
+ *   2, 3            the first unit's front point, at the front half width
+ *   4, 5            the last unit's rear axle, at the rear half width
+ *   6, 7            the rear corners of the first unit's body
+ *   4i to 4i + 3    the front corners of the body of unit i, 2 to n, then its rear corners
+ * A station is complete when all of them have crossed it.
+ *
  * Link libturning.a alone; beside it only the C library is needed. One tick is a tenth of a millimetre. */
 #ifndef TURNING_H
 #define TURNING_H
@@ -43,7 +57,8 @@ enum {
 uint32_t turning_sweep(const uint8_t *job, size_t job_len, int64_t *answer, size_t answer_len);
 
 /* The same on the caller's seven runs, one entry a station: the stations' places and headings, the least
- * and greatest reach, and the marks, a bit a point. 2,001 entries each have room for every job.
+ * and greatest reach, and the marks, 32 bits each: bit p, counted from the lowest, is set where point p has
+ * crossed the station, and the bits above the rig's points are 0. 2,001 entries each have room for every job.
  *   0                                   finished: the answer run as above, and the seven runs
  *   22 or 23 + 256 * unit + 65536 * step   a step is refused: the path stands in its four runs, the other
  *                                       three are as the steps made before it left them
@@ -54,7 +69,7 @@ uint32_t turning_run(const uint8_t *job, size_t job_len,
                      int32_t *xs, size_t xs_len, int32_t *ys, size_t ys_len,
                      int32_t *gxs, size_t gxs_len, int32_t *gys, size_t gys_len,
                      int32_t *left, size_t left_len, int32_t *right, size_t right_len,
-                     uint8_t *marks, size_t marks_len, int64_t *answer, size_t answer_len);
+                     uint32_t *marks, size_t marks_len, int64_t *answer, size_t answer_len);
 
 /* Walks the job with its last unit's wheelbase replaced, from a new placement at each of 1 to 32 settings:
  * the lowest, then one pitch (at least 1) more for each next, all from 5,000 to 200,000. Lists the best
@@ -76,7 +91,7 @@ uint32_t turning_settings(const uint8_t *job, size_t job_len,
                           int32_t *xs, size_t xs_len, int32_t *ys, size_t ys_len,
                           int32_t *gxs, size_t gxs_len, int32_t *gys, size_t gys_len,
                           int32_t *left, size_t left_len, int32_t *right, size_t right_len,
-                          uint8_t *marks, size_t marks_len, int64_t *answer, size_t answer_len);
+                          uint32_t *marks, size_t marks_len, int64_t *answer, size_t answer_len);
 
 /* Turns the path heading (gx, gy) by a step of s ticks on the radius r: 0 straight, positive right.
  *   0         heading x, heading y, move x, move y

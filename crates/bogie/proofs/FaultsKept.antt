@@ -10,11 +10,12 @@ use lib.ListN.{set, getD, take}
 use lib.Seq.{take-set-lt, getD-take}
 use Rattle.number.proofs.FieldCodec.{both, and}
 use Rattle.job.specs.declared.Unit.{Unit as VehicleUnit}
+use Rattle.job.specs.declared.Form.{Form}
 use Rattle.job.specs.declared.Vehicle.{Vehicle}
 use Rattle.job.specs.declared.Job.{Job}
 use Rattle.job.specs.Allowed.{wheelbaseAllowed, hitchAllowed, foldAllowed, unitAllowed}
 use Rattle.job.specs.Empty.{emptyUnit}
-use Rattle.job.specs.Faults.{faultOf, unitFault, unitsFault, vehicleFault, judge}
+use Rattle.job.specs.Faults.{faultOf, measuresFault, bodyFault, unitFaultAt, unitsFault, vehicleFault, judge}
 use Rattle.job.proofs.FaultLaws.{first-none, or-none, sound-vehicle, vehicle-sound, sound, job-sound}
 use Rattle.path.specs.Stations.{stations}
 use Rattle.path.specs.Laying.{PathRuns}
@@ -40,26 +41,27 @@ fault-set one t (x ∷ xs) (suc i) y z f h =
 pub unit-kept : (first : Bool) (u : VehicleUnit) (w : ℕ) → wheelbaseAllowed w ≡ true → unitAllowed first true u ≡ true → unitAllowed first true (unitSet u w) ≡ true
 unit-kept first u w h k = and h (both (wheelbaseAllowed (u .wheelbase)) (hitchAllowed true (u .wheelbase) (u .hitch) && foldAllowed first (u .fold)) k .1)
 
-last-kept : (count k : ℕ) (u : VehicleUnit) (w : ℕ) → k + 1 ≡ count → wheelbaseAllowed w ≡ true → unitFault count k u ≡ 0 → unitFault count k (unitSet u w) ≡ 0
-last-kept count k u w e h f =
+last-kept : (form : Form) (count k : ℕ) (u : VehicleUnit) (w : ℕ) → k + 1 ≡ count → wheelbaseAllowed w ≡ true → unitFaultAt form count k u ≡ 0 → unitFaultAt form count k (unitSet u w) ≡ 0
+last-kept form count k u w e h f =
     let t = eq-eqb (k + 1) count e in
-    let a = unit-kept (eqb k 0) u w h (or-none (unitAllowed (eqb k 0) true u) 3 0 (rw t at f) .0) in
-    rw (t, a) refl
+    let n = first-none (measuresFault (eqb k 0) true u) (bodyFault form (u .body)) (rw t at f) in
+    let a = unit-kept (eqb k 0) u w h (or-none (unitAllowed (eqb k 0) true u) 3 0 (n .0) .0) in
+    rw (t, a) (n .1)
 
-units-kept : (count : ℕ) (us : List VehicleUnit) (w : ℕ) → 1 ≤ count → wheelbaseAllowed w ≡ true → unitsFault count us ≡ 0 → unitsFault count (set us (count - 1) (unitSet (getD us (count - 1) emptyUnit) w)) ≡ 0
+units-kept : (form : Form) (count : ℕ) (us : List VehicleUnit) (w : ℕ) → 1 ≤ count → wheelbaseAllowed w ≡ true → unitsFault form count us ≡ 0 → unitsFault form count (set us (count - 1) (unitSet (getD us (count - 1) emptyUnit) w)) ≡ 0
 unfolding unitsFault
-units-kept count us w l h f =
+units-kept form count us w l h f =
     let u = getD us (count - 1) emptyUnit in
     rw (take-set-lt count us (count - 1) (unitSet u w) (omega arith))
-    (fault-set (unitFault count) 0 (take count us) (count - 1) (unitSet u w) emptyUnit
-    (λ k e g. last-kept count k u w (omega arith) h (rw (getD-take count us (count - 1) emptyUnit (omega arith)) at g))
+    (fault-set (unitFaultAt form count) 0 (take count us) (count - 1) (unitSet u w) emptyUnit
+    (λ k e g. last-kept form count k u w (omega arith) h (rw (getD-take count us (count - 1) emptyUnit (omega arith)) at g))
     f)
 
 pub kept-vehicle : (v : Vehicle) (w : ℕ) → vehicleFault v ≡ 0 → wheelbaseAllowed w ≡ true → vehicleFault (vehicleSet v w) ≡ 0
 kept-vehicle v w f h =
     let s = sound-vehicle v f in
     let least = leb-true 1 (v .count) (both (leb 1 (v .count)) (leb (v .count) 4) (s .count) .0) in
-    vehicle-sound (vehicleSet v w) (record { count = s .count; units = units-kept (v .count) (v .units) w least h (s .units); widths = s .widths })
+    vehicle-sound (vehicleSet v w) (record { count = s .count; units = units-kept (v .form) (v .count) (v .units) w least h (s .units); widths = s .widths })
 
 pub kept-job : (j : Job) (w : ℕ) → judge j ≡ 0 → wheelbaseAllowed w ≡ true → judge (jobSet j w) ≡ 0
 kept-job j w f h =

@@ -6,12 +6,15 @@ use mathlib.Core.List.{List, [], _∷_}
 use native.Mathlib.Omega.{arith}
 use lib.Dec.{eqb}
 use lib.ListN.{length, take}
+use Rattle.job.specs.declared.Body.{Body}
+use Rattle.job.specs.declared.Form.{Form}
+use Rattle.job.specs.declared.Form.the-variants.{Short, Long}
 use Rattle.job.specs.declared.Unit.{Unit as VehicleUnit}
 use Rattle.job.specs.declared.Element.{Element}
 use Rattle.job.specs.declared.Job.{Job}
-use Rattle.job.specs.Allowed.{unitCountAllowed, unitAllowed, widthsAllowed, startAllowed, stepAllowed, elementCountAllowed, elementAllowed}
+use Rattle.job.specs.Allowed.{bodyAllowed, unitCountAllowed, unitAllowed, widthsAllowed, startAllowed, stepAllowed, elementCountAllowed, elementAllowed}
 use Rattle.job.specs.Steps.{tally, stepsAllowed}
-use Rattle.job.specs.Faults.{orFault, firstOf, faultOf, unitFault, unitsFault, elementFault, totalFault, elementsFault, vehicleFault, judge}
+use Rattle.job.specs.Faults.{orFault, firstOf, faultOf, bodyFault, unitFaultAt, unitsFault, elementFault, totalFault, elementsFault, vehicleFault, judge}
 use Rattle.job.proofs.FaultLaws.{first-of, first-none, or-none}
 use Rattle.path.specs.Stations.{stations}
 use Rattle.path.specs.Laying.{PathRuns, roomFor}
@@ -43,10 +46,16 @@ unfolding faultOf
 fault-most one next end m h k t [] = k t
 fault-most one next end m h k t (x ∷ xs) = first-most (one t x) (faultOf one next end (next t x) xs) m (h t x) (fault-most one next end m h k (next t x) xs)
 
-units-most : (count : ℕ) (us : List VehicleUnit) → unitsFault count us ≤ 9
+body-most : (form : Form) (b : Body) → bodyFault form b ≤ 9
+body-most Short b = omega arith
+body-most Long b = alone (bodyAllowed b) 5 9 (omega arith)
+
+units-most : (form : Form) (count : ℕ) (us : List VehicleUnit) → unitsFault form count us ≤ 9
 unfolding unitsFault
-units-most count us =
-    fault-most (unitFault count) (λ i u. i + 1) (λ i. 0) 9 (λ i u. alone (unitAllowed (eqb i 0) (eqb (i + 1) count) u) 4 9 (omega arith)) (λ i. omega arith) 0 (take count us)
+units-most form count us =
+    fault-most (unitFaultAt form count) (λ i u. i + 1) (λ i. 0) 9
+    (λ i u. first-most _ _ 9 (alone (unitAllowed (eqb i 0) (eqb (i + 1) count) u) 4 9 (omega arith)) (body-most form (u .body)))
+    (λ i. omega arith) 0 (take count us)
 
 elements-most : (step count : ℕ) (es : List Element) → elementsFault step count es ≤ 9
 unfolding elementsFault
@@ -58,7 +67,7 @@ unfolding judge vehicleFault
 judge-most j =
     let v = j .vehicle in
     first-most _ _ 9
-    (or-most (unitCountAllowed (v .count)) 3 _ 9 (omega arith) (first-most _ _ 9 (units-most (v .count) (v .units)) (alone (widthsAllowed v) 5 9 (omega arith))))
+    (or-most (unitCountAllowed (v .count)) 3 _ 9 (omega arith) (first-most _ _ 9 (units-most (v .form) (v .count) (v .units)) (alone (widthsAllowed v) 5 9 (omega arith))))
     (or-most (startAllowed (j .start)) 6 _ 9 (omega arith)
     (or-most (stepAllowed (j .step)) 7 _ 9 (omega arith)
     (or-most (elementCountAllowed (j .count)) 8 _ 9 (omega arith) (elements-most (j .step) (j .count) (j .elements)))))

@@ -34,10 +34,11 @@ railAllowed b = leb 1 (b .pitch) && (between 1 32 (b .number) && settingsAllowed
 
 -- a unit, a vehicle and a job with another last wheelbase; all else stays
 abbrev pub unitSet : VehicleUnit → ℕ → VehicleUnit
-unitSet u wheelbase = record { wheelbase = wheelbase; hitch = u .hitch; fold = u .fold }
+unitSet u wheelbase = record { wheelbase = wheelbase; hitch = u .hitch; fold = u .fold; body = u .body }
 
 abbrev pub vehicleSet : Vehicle → ℕ → Vehicle
 vehicleSet v wheelbase = record {
+  form = v .form;
   count = v .count;
   units = set (v .units) (v .count - 1) (unitSet (getD (v .units) (v .count - 1) emptyUnit) wheelbase);
   overhang = v .overhang;

@@ -4,6 +4,9 @@ use mathlib.Core.Path.{_≡_}
 use mathlib.Core.List.{List, [], _∷_}
 use lib.ListN.{replicate}
 use lib.IntN.{ℤ, pos, negsuc}
+use Rattle.job.specs.declared.Body.{Body}
+use Rattle.job.specs.declared.Form.{Form}
+use Rattle.job.specs.declared.Form.the-variants.{Short, Long}
 use Rattle.job.specs.declared.Vehicle.{Vehicle}
 use Rattle.path.specs.Laying.{PathRuns, pathRuns}
 use Rattle.reaches.specs.Cells.{Reaches, reachRuns}
@@ -23,17 +26,21 @@ unlaid = pathRuns zeros zeros zeros zeros
 abbrev pub uncleared : Reaches
 uncleared = reachRuns zeros zeros (replicate 14 0)
 
--- a rig of two units, by the wheelbase of its second
-abbrev pub twoUnits : ℕ → Vehicle
-twoUnits w = record {
+abbrev pub body : ℕ → ℕ → ℕ → Body
+body front rear half = record { «front_overhang» = front; «rear_overhang» = rear; «half_width» = half }
+
+-- a rig of two units, by its form, the old overhang and the wheelbase of its second; the measures of all four units differ
+abbrev pub twoUnits : Form → ℕ → ℕ → Vehicle
+twoUnits form overhang w = record {
+  form = form;
   count = 2;
   units =
-      record { wheelbase = 40000; hitch = negsuc 37367; fold = pos 0 }
-      ∷ record { wheelbase = w; hitch = pos 0; fold = negsuc 889 }
-      ∷ record { wheelbase = 1; hitch = pos 2; fold = pos 3 }
-      ∷ record { wheelbase = 4; hitch = pos 5; fold = pos 6 }
+      record { wheelbase = 40000; hitch = negsuc 37367; fold = pos 0; body = body 9100 3100 12100 }
+      ∷ record { wheelbase = w; hitch = pos 0; fold = negsuc 889; body = body 2200 6200 12200 }
+      ∷ record { wheelbase = 1; hitch = pos 2; fold = pos 3; body = body 7 8 9 }
+      ∷ record { wheelbase = 4; hitch = pos 5; fold = pos 6; body = body 10 11 12 }
       ∷ [];
-  overhang = 7000;
+  overhang = overhang;
   «front_half_width» = 8000;
   «rear_half_width» = 9000;
 }
@@ -44,8 +51,9 @@ Lists b wanted = (answer : Listed) (p' : PathRuns) (r' : Reaches) → ListEnsure
 
 -- the claim
 pub record WorkedLists : Type 0 where
-  -- "last wheelbase": the second unit's, and nothing else, in a rig of two
-  pub replaced : vehicleSet (twoUnits 50000) 62000 ≡ twoUnits 62000
+  -- "last wheelbase": the second unit's, and nothing else, in a rig of two, of a short job and of a long one; bodies stay as they are
+  pub replaced : vehicleSet (twoUnits Short 7000 50000) 62000 ≡ twoUnits Short 7000 62000
+  pub replacedLong : vehicleSet (twoUnits Long 0 50000) 62000 ≡ twoUnits Long 0 62000
   -- 20,000 to 60,000: five settings, of which four have the width 24,000, and the three shortest are listed
   pub three : Lists (record { lowest = 20000; pitch = 10000; number = 5 }) (Three (record { wheelbase = 20000; width = pos 24000 }) (record { wheelbase = 30000; width = pos 24000 }) (record { wheelbase = 40000; width = pos 24000 }))
   -- 40,000 to 60,000: two are listed

@@ -63,12 +63,16 @@ fn vehicle_set(v: Vehicle, wheelbase: u32) -> Vehicle
     let last = v.count - 1;
     let mut units = v.units;
     let u = units[last];
+    let body = u.body;
     units[last] = Unit {
         wheelbase,
         hitch: u.hitch,
         fold: u.fold,
+        body,
     };
+    let form = v.form;
     Vehicle {
+        form,
         count: v.count,
         units,
         overhang: v.overhang,
@@ -90,7 +94,7 @@ fn walk_settings(
     gys: &[i32],
     left: &mut [i32],
     right: &mut [i32],
-    marks: &mut [u8],
+    marks: &mut [marks::Mark],
 ) -> Listed
     requires { ⌜ Walkable v (record { lowest = lowest; pitch = pitch; number = number }) (callOf asked (pathRuns (now xs) (now ys) (now gxs) (now gys)) (reachRuns (now left) (now right) (now marks))) ⌝ }
     ensures { λ r. ⌜ WalkEnsures asked (pathRuns (now (xs .entry)) (now (ys .entry)) (now (gxs .entry)) (now (gys .entry))) v (record { lowest = lowest; pitch = pitch; number = number })
@@ -122,7 +126,7 @@ fn refusal_of(
     gys: &[i32],
     left: &[i32],
     right: &[i32],
-    marks: &[u8],
+    marks: &[marks::Mark],
 ) -> u8
     ensures { λ r. ⌜ r ≡ listRefusal j (record { lowest = lowest; pitch = pitch; number = number })
         (pathRuns (now (xs .entry)) (now (ys .entry)) (now (gxs .entry)) (now (gys .entry)))
@@ -159,7 +163,7 @@ pub fn list_settings(
     gys: &mut [i32],
     left: &mut [i32],
     right: &mut [i32],
-    marks: &mut [u8],
+    marks: &mut [marks::Mark],
 ) -> Listed
     ensures { λ r. ⌜ ListEnsures j (record { lowest = lowest; pitch = pitch; number = number })
         (pathRuns (now (xs .entry)) (now (ys .entry)) (now (gxs .entry)) (now (gys .entry)))

@@ -26,7 +26,7 @@ pub fn list_into(
     gys: &mut [i32],
     left: &mut [i32],
     right: &mut [i32],
-    marks: &mut [u8],
+    marks: &mut [marks::Mark],
 ) -> Offered
     ensures { λ r. ⌜ ListIntoEnsures (now (bytes .entry)) (record { lowest = lowest; pitch = pitch; number = number })
         (pathRuns (now (xs .entry)) (now (ys .entry)) (now (gxs .entry)) (now (gys .entry)))
@@ -68,7 +68,7 @@ pub fn list_job(bytes: &[u8], lowest: u32, pitch: u32, number: u32) -> Offered
     let mut gys = [0i32; 2001];
     let mut left = [0i32; 2001];
     let mut right = [0i32; 2001];
-    let mut marks = [0u8; 2001];
+    let mut marks = [0u32; 2001];
     list_into(
         bytes,
         lowest,

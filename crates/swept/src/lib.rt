@@ -36,7 +36,7 @@ pub fn sweep_into(
     gys: &mut [i32],
     left: &mut [i32],
     right: &mut [i32],
-    marks: &mut [u8],
+    marks: &mut [marks::Mark],
 ) -> Swept
     ensures { λ r. ⌜ IntoEnsures (now (bytes .entry))
         (pathRuns (now (xs .entry)) (now (ys .entry)) (now (gxs .entry)) (now (gys .entry)))
@@ -66,7 +66,7 @@ pub fn sweep_job(bytes: &[u8]) -> Swept
     let mut gys = [0i32; 2001];
     let mut left = [0i32; 2001];
     let mut right = [0i32; 2001];
-    let mut marks = [0u8; 2001];
+    let mut marks = [0u32; 2001];
     sweep_into(
         bytes,
         &mut xs,

@@ -19,7 +19,7 @@ pub extern "C" fn turning_settings(
     gys: &mut [i32],
     left: &mut [i32],
     right: &mut [i32],
-    marks: &mut [u8],
+    marks: &mut [marks::Mark],
     answer: &mut [i64],
 ) -> u32
     ensures { λ r. ⌜ SettingsCalled (now (job .entry)) (record { lowest = lowest; pitch = pitch; number = number })

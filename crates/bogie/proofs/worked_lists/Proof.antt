@@ -14,6 +14,7 @@ use Rattle.walk.specs.Units.{turnUnits}
 use Rattle.walk.specs.Rig.{startVectors, drawStep}
 use Rattle.marks.specs.Count.{pointCount}
 use Rattle.marks.specs.Marks.{allSet}
+use Rattle.points.specs.Corners.{bodyOf, frontCorner, rearCorner, cornerOf}
 use Rattle.points.specs.Ends.{unitPlaces}
 use Rattle.points.specs.Points.{pointAt, rigPoints}
 use Rattle.reaches.specs.Cells.{atStations}
@@ -30,8 +31,8 @@ use Rattle.bogie.proofs.worked_lists.Statement.{statement}
 use Rattle.bogie.proofs.worked_lists.Tie as tie
 
 worked : WorkedLists
-unfolding halfTo nearestSize nearestZ hasLength headingAllowed emptyUnits emptyElements faultOf unitsFault elementsFault vehicleFault judge fullSteps cutsFrom stepsOn stationsFrom stations placedBy turnedBy tooFar hitchOffset foldAllowed lent stationSound pathSound vehicleSound vectorSound vectorsSound recordSound atLast turnUnits startVectors drawStep unitPlaces pointCount allSet pointAt rigPoints atStations reachOf crosses crossedBy crossedFrom widestAmong walkOn runRefusal settingsAllowed railAllowed fitting insert ranked listRefusal
-worked = record { replaced = refl; three = λ a p r h. h .answered; two = λ a p r h. h .answered; none = λ a p r h. h .answered; outside = λ a p r h. h .answered }
+unfolding halfTo nearestSize nearestZ hasLength headingAllowed emptyUnits emptyElements faultOf unitsFault elementsFault vehicleFault judge fullSteps cutsFrom stepsOn stationsFrom stations placedBy turnedBy tooFar hitchOffset foldAllowed lent stationSound pathSound vehicleSound vectorSound vectorsSound recordSound atLast turnUnits startVectors drawStep unitPlaces bodyOf frontCorner rearCorner cornerOf pointCount allSet pointAt rigPoints atStations reachOf crosses crossedBy crossedFrom widestAmong walkOn runRefusal settingsAllowed railAllowed fitting insert ranked listRefusal
+worked = record { replaced = refl; replacedLong = refl; three = λ a p r h. h .answered; two = λ a p r h. h .answered; none = λ a p r h. h .answered; outside = λ a p r h. h .answered }
 
 returns : tie.Need-returns
 returns c = worked
