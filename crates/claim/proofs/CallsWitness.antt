@@ -7,13 +7,14 @@ use lib.Seq.{sets}
 use lib.IntN.{ℤ, pos, negℤ}
 use Rattle.exact.specs.Nearest.{halfTo, nearestSize, nearestZ}
 use Rattle.plane.specs.Length.{hasLength}
+use Rattle.job.specs.declared.Form.the-variants.{Short}
 use Rattle.job.specs.declared.Curve.the-variants.{Straight}
 use Rattle.job.specs.declared.Element.{Element}
 use Rattle.job.specs.declared.Job.{Job}
 use Rattle.job.specs.declared.Unit.{Unit as VehicleUnit}
 use Rattle.job.specs.declared.Vehicle.{Vehicle}
 use Rattle.job.specs.Allowed.{headingAllowed}
-use Rattle.job.specs.Empty.{emptyUnit, emptyVehicle, emptyElements}
+use Rattle.job.specs.Empty.{emptyBody, emptyUnit, emptyVehicle, emptyElements}
 use Rattle.job.specs.Faults.{faultOf, unitsFault, elementsFault, vehicleFault, judge}
 use Rattle.path.specs.Cuts.{fullSteps, cutsFrom}
 use Rattle.path.specs.Stations.{stepsOn, stationsFrom, stations}
@@ -43,10 +44,10 @@ noWalk = record { vehicle = emptyVehicle; station = 0; d = replicate 4 zeroVecto
 
 -- two units in line due north, the second of which may hardly fold
 abbrev unitOf : ℤ → VehicleUnit
-unitOf limit = record { wheelbase = 50000; hitch = pos 0; fold = limit }
+unitOf limit = record { wheelbase = 50000; hitch = pos 0; fold = limit; body = emptyBody }
 
 abbrev rig : Vehicle
-rig = record { count = 2; units = unitOf (pos 0) ∷ unitOf (pos 990) ∷ emptyUnit ∷ emptyUnit ∷ []; overhang = 0; «front_half_width» = 1000; «rear_half_width» = 1000 }
+rig = record { form = Short; count = 2; units = unitOf (pos 0) ∷ unitOf (pos 990) ∷ emptyUnit ∷ emptyUnit ∷ []; overhang = 0; «front_half_width» = 1000; «rear_half_width» = 1000 }
 
 -- a path of two stations, from the origin to (x, y)
 abbrev pathTo : ℤ → ℤ → PathRuns
@@ -111,7 +112,7 @@ straight l = record { length = l; curve = Straight }
 
 abbrev jobOn : ℕ → List ℕ → Job
 jobOn step ls = record {
-  vehicle = record { count = 1; units = record { wheelbase = 5000; hitch = pos 0; fold = pos 0 } ∷ emptyUnit ∷ emptyUnit ∷ emptyUnit ∷ []; overhang = 0; «front_half_width» = 1000; «rear_half_width» = 1000 };
+  vehicle = record { form = Short; count = 1; units = record { wheelbase = 5000; hitch = pos 0; fold = pos 0; body = emptyBody } ∷ emptyUnit ∷ emptyUnit ∷ emptyUnit ∷ []; overhang = 0; «front_half_width» = 1000; «rear_half_width» = 1000 };
   start = record { x = pos 0; y = pos 0; gx = pos 0; gy = pos 1000000 };
   step = step;
   count = length ls;

@@ -5,8 +5,9 @@ use mathlib.Core.List.{List, [], _∷_}
 use lib.IntN.{ℤ, pos, negsuc}
 use Rattle.exact.specs.Nearest.{halfTo, nearestSize, nearestZ}
 use Rattle.plane.specs.Length.{hasLength}
+use Rattle.job.specs.declared.Form.the-variants.{Short}
 use Rattle.job.specs.declared.Vehicle.{Vehicle}
-use Rattle.job.specs.Empty.{emptyUnit}
+use Rattle.job.specs.Empty.{emptyBody, emptyUnit}
 use Rattle.job.specs.Faults.{faultOf, unitsFault, vehicleFault}
 use Rattle.path.specs.Laying.{PathRuns, pathRuns}
 use Rattle.unit.specs.Turn.{turnedBy, tooFar, placedBy}
@@ -19,6 +20,7 @@ use Rattle.walk.specs.Units.{turnUnits}
 use Rattle.walk.specs.Rig.{zeroVector, startVectors, drawStep}
 use Rattle.marks.specs.Count.{pointCount}
 use Rattle.marks.specs.Marks.{allSet}
+use Rattle.points.specs.Corners.{bodyOf, frontCorner, rearCorner, cornerOf}
 use Rattle.points.specs.Ends.{unitPlaces}
 use Rattle.points.specs.Points.{pointAt, rigPoints}
 use Rattle.reaches.specs.Cells.{Reaches, reachRuns, atStations}
@@ -31,8 +33,9 @@ use Rattle.claim.specs.StationHistory.{History, MadeOver, Lawful}
 
 abbrev pub vehicle : Vehicle
 vehicle = record {
+  form = Short;
   count = 1;
-  units = record { wheelbase = 5000; hitch = pos 0; fold = pos 0 } ∷ emptyUnit ∷ emptyUnit ∷ emptyUnit ∷ [];
+  units = record { wheelbase = 5000; hitch = pos 0; fold = pos 0; body = emptyBody } ∷ emptyUnit ∷ emptyUnit ∷ emptyUnit ∷ [];
   overhang = 0;
   «front_half_width» = 1000;
   «rear_half_width» = 1000;
@@ -57,18 +60,18 @@ path = pathTo (pos 15000)
 abbrev tooFarEast : PathRuns
 tooFarEast = pathRuns (pos 150000001 ∷ []) (pos 0 ∷ []) (pos 0 ∷ []) (pos 1000000 ∷ [])
 
--- what the runs hold after 0, 1, 2 and 3 steps: a station is first crossed by the four points in front, a step later by the rear wheels
+-- what the runs hold after 0, 1, 2 and 3 steps: a station is first crossed by the four points in front, a step later by the rear wheels and corners
 abbrev pub none : Reaches
 none = reachRuns (pos 2000000000 ∷ pos 2000000000 ∷ pos 2000000000 ∷ pos 2000000000 ∷ []) (negsuc 1999999999 ∷ negsuc 1999999999 ∷ negsuc 1999999999 ∷ negsuc 1999999999 ∷ []) (0 ∷ 0 ∷ 0 ∷ 0 ∷ [])
 
 abbrev one : Reaches
-one = reachRuns (negsuc 999 ∷ negsuc 999 ∷ pos 2000000000 ∷ pos 2000000000 ∷ []) (pos 1000 ∷ pos 1000 ∷ negsuc 1999999999 ∷ negsuc 1999999999 ∷ []) (48 ∷ 15 ∷ 0 ∷ 0 ∷ [])
+one = reachRuns (negsuc 999 ∷ negsuc 999 ∷ pos 2000000000 ∷ pos 2000000000 ∷ []) (pos 1000 ∷ pos 1000 ∷ negsuc 1999999999 ∷ negsuc 1999999999 ∷ []) (240 ∷ 15 ∷ 0 ∷ 0 ∷ [])
 
 abbrev two : Reaches
-two = reachRuns (negsuc 999 ∷ negsuc 999 ∷ negsuc 999 ∷ pos 2000000000 ∷ []) (pos 1000 ∷ pos 1000 ∷ pos 1000 ∷ negsuc 1999999999 ∷ []) (48 ∷ 63 ∷ 15 ∷ 0 ∷ [])
+two = reachRuns (negsuc 999 ∷ negsuc 999 ∷ negsuc 999 ∷ pos 2000000000 ∷ []) (pos 1000 ∷ pos 1000 ∷ pos 1000 ∷ negsuc 1999999999 ∷ []) (240 ∷ 255 ∷ 15 ∷ 0 ∷ [])
 
 abbrev pub three : Reaches
-three = reachRuns (negsuc 999 ∷ negsuc 999 ∷ negsuc 999 ∷ negsuc 999 ∷ []) (pos 1000 ∷ pos 1000 ∷ pos 1000 ∷ pos 1000 ∷ []) (48 ∷ 63 ∷ 63 ∷ 15 ∷ [])
+three = reachRuns (negsuc 999 ∷ negsuc 999 ∷ negsuc 999 ∷ negsuc 999 ∷ []) (pos 1000 ∷ pos 1000 ∷ pos 1000 ∷ pos 1000 ∷ []) (240 ∷ 255 ∷ 255 ∷ 15 ∷ [])
 
 -- runs of zeros, no runs, and runs of one entry
 abbrev pub zeros : Reaches
@@ -78,7 +81,7 @@ abbrev noRuns : Reaches
 noRuns = reachRuns [] [] []
 
 abbrev single : Reaches
-single = reachRuns (pos 7 ∷ []) (pos 8 ∷ []) (255 ∷ [])
+single = reachRuns (pos 7 ∷ []) (pos 8 ∷ []) (4294967295 ∷ [])
 
 -- a call over some stations of a path, its answer, the station of the record that it leaves and the runs
 abbrev turn : ℕ → PathRuns → Reaches → StepAnswer → ℕ → Reaches → Turn
@@ -122,7 +125,7 @@ unfolding halfTo nearestSize nearestZ hasLength faultOf unitsFault vehicleFault 
 placed = record { answered = refl; placed = refl; unchanged = λ n. absurd (n refl); runs = refl }
 
 chain : Chain (at 0) turns
-unfolding Chain halfTo nearestSize nearestZ hasLength faultOf unitsFault vehicleFault turnedBy tooFar hitchOffset foldAllowed lent stationSound pathSound vehicleSound vectorSound vectorsSound recordSound atLast turnUnits drawStep unitPlaces pointCount allSet pointAt rigPoints atStations reachOf crosses crossedBy crossedFrom
+unfolding Chain halfTo nearestSize nearestZ hasLength faultOf unitsFault vehicleFault turnedBy tooFar hitchOffset foldAllowed lent stationSound pathSound vehicleSound vectorSound vectorsSound recordSound atLast turnUnits drawStep unitPlaces bodyOf frontCorner rearCorner cornerOf pointCount allSet pointAt rigPoints atStations reachOf crosses crossedBy crossedFrom
 chain = (
   record { stepped = refl; unchanged = λ n. absurd (n refl); runs = refl },
   (

@@ -177,7 +177,7 @@ module _ (h : History) (l : Lawful h) where
   pub units : h .vehicle .count ≤ 4
   units = units-counted (h .vehicle) (placed-vehicle (h .vehicle) (placeCall h) none) .1
 
-  starts : view (h .placing .walk) ≡ start
+  pub starts : view (h .placing .walk) ≡ start
   starts = l .placement .placed ∙ ap (λ (k : ℕ). unlessRefused k start (view (h .walk))) none
 
   pub clears : h .after ≡ cleared (h .asked) (h .before)

@@ -8,6 +8,7 @@ pub mod CallsWitness
 pub mod DrawnCalls
 pub mod HistoryLaws
 pub mod HistoryKept
+pub mod RecordKept
 pub mod RunFollows
 pub mod RunKept
 pub mod EnteredLaws

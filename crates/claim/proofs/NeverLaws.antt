@@ -1,4 +1,4 @@
--- No step touches the top two bits of a mark, and no call an entry past the stations asked for.
+-- No step touches the bits of a mark above those of the rig's points, and no call an entry past the stations asked for.
 use Prim.Native.Nat.{ℕ, zero, suc, _+_, _≤_, _<_}
 use mathlib.Core.Path.{_≡_, refl, sym, _∙_, ap, subst}
 use mathlib.Core.List.{List, [], _∷_, map}

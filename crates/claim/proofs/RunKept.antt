@@ -11,8 +11,7 @@ use Rattle.number.specs.Read.{pick}
 use Rattle.number.proofs.FieldCodec.{both, and}
 use Rattle.job.specs.declared.Job.{Job}
 use Rattle.job.specs.declared.Vehicle.{Vehicle}
-use Rattle.marks.specs.Count.{sixPoints, pointCount}
-use Rattle.marks.proofs.CountLaws.{every-six}
+use Rattle.marks.specs.Count.{pointCount}
 use Rattle.job.specs.Allowed.{between}
 use Rattle.job.specs.Faults.{judge}
 use Rattle.path.specs.declared.Laid.{Laid}
@@ -22,7 +21,7 @@ use Rattle.path.specs.Laying.{PathRuns, roomFor, layAnswer, laidRuns, LayEnsure
 use Rattle.path.proofs.JobLaws.{stations-answered}
 use Rattle.walk.specs.declared.Walk.{Walk}
 use Rattle.walk.specs.Drawn.{Drawn, view, Call, Outcome, made, refused, refusedAt, stationAt}
-use Rattle.walk.specs.Tests.{lent, pathLent, reachesLent, pathSound, vehicleSound}
+use Rattle.walk.specs.Tests.{lent, pathLent, reachesLent, pathSound, vehicleSound, recordSound}
 use Rattle.walk.specs.Rig.{drawnStart}
 use Rattle.walk.proofs.RecordTests.{lent-call}
 use Rattle.reaches.specs.Cells.{Reaches, lengthsOf, clearedCell, cleared}
@@ -40,7 +39,8 @@ use Rattle.run.proofs.WalkingLaws.{same-call}
 use Rattle.run.proofs.CourseLaws.{course-vehicle, course-lengths}
 use Rattle.run.proofs.OverLaws.{placed-going}
 use Rattle.run.proofs.RunLaws.{all-passed, runnable}
-use Rattle.claim.specs.DemandThree.{Turn, Chain}
+use Rattle.claim.specs.DemandThree.{Turn, Chain, lastRecord}
+use Rattle.claim.proofs.RecordKept.{handed-asked, vehicle-left, sound-left}
 use Rattle.claim.specs.WholeRun.{Handed, lastRuns, UntilRefused, lastAnswer, Told, Run, Ensured, Untouched, Followed, WholeRun}
 use Rattle.claim.proofs.CallsKept.{none-refused, passed}
 use Rattle.claim.proofs.RunFollows.{asCall, Ended, calls-end}
@@ -69,12 +69,12 @@ not-laid x h m laid t =
     not-zero x h m (q .0) (q .1)
 
 -- the widest place of runs that were lent
-pub read-off : (v : Vehicle) (n : ℕ) (path : PathRuns) (r : Reaches) → lent (callOf n path r) ≡ true → answerOf (widestAmong (pointCount v) n r) ≡ widestAnswer sixPoints n r
+pub read-off : (v : Vehicle) (s : Drawn) (n : ℕ) (path : PathRuns) (r : Reaches) → s .vehicle ≡ v → recordSound n s ≡ true → lent (callOf n path r) ≡ true → answerOf (widestAmong (pointCount v) n r) ≡ widestAnswer s n r
 unfolding lent widestLent widestAnswer
-read-off v n path r l =
+read-off v s n path r e k l =
     let a = both (pathLent n path) (reachesLent n (lengthsOf r)) l in
     let b = both (between 1 2001 n) (roomFor n path) (a .0) in
-    rw (and (b .0) (a .1)) (ap (λ (k : ℕ). answerOf (widestAmong k n r)) (every-six v))
+    rw (and (b .0) (a .1), k) (ap (λ (x : Vehicle). answerOf (widestAmong (pointCount x) n r)) (sym e))
 
 -- laid: the job has no fault and its path has room
 module _ (x : Run) (h : Ensured x) (n : ℕ) (laid : PathRuns) (t : LayEnsures (x .job) (x .path) (L.Stations n) laid) where
@@ -197,21 +197,22 @@ module _ (x : Run) (h : Ensured x) (n : ℕ) (laid : PathRuns) (t : LayEnsures (
             let b = lengths-of (λ i c. clearedCell) n (x .reaches) is-cleared in
             rw (same-call n laid a, same-call n laid b) call-lent
 
-        pub told : Told (j .vehicle) n laid (lastRuns after ts) ts (x .answer)
-        told =
+        pub told : Chain (p .walk) ts → Handed n laid after ts → recordSound n (view (p .walk)) ≡ true → Told (j .vehicle) (lastRecord (p .walk) ts) n laid (lastRuns after ts) ts (x .answer)
+        told c d g =
             record {
               finished = λ z. run-answer ∙ finished-so (course .answer) refl (sym (o .answer) ∙ z);
               stopped = λ m u z. run-answer ∙ stopped-so (course .answer) m u refl (sym (o .answer) ∙ z);
               only = λ m z. only-25 (course .answer) m refl (sym (o .answer) ∙ z);
-              widest = subst (λ (r : Reaches). answerOf (widestAmong (pointCount (j .vehicle)) n r) ≡ widestAnswer sixPoints n r) (o .runs) (read-off (j .vehicle) n laid (course .runs) course-lent);
+              widest = subst (λ (r : Reaches). answerOf (widestAmong (pointCount (j .vehicle)) n r) ≡ widestAnswer (view (lastRecord (p .walk) ts)) n r) (o .runs)
+                  (read-off (j .vehicle) (view (lastRecord (p .walk) ts)) n laid (course .runs) (vehicle-left (p .walk) ts c ∙ ap (λ (s : Drawn). s .vehicle) is-placed) (sound-left n (p .walk) g ts c (handed-asked n laid after ts d)) course-lent);
             }
 
-      pub followed : (ts : List Turn) → Chain (p .walk) ts → Handed n laid after ts → UntilRefused ts → Followed x n laid after ts
+      pub followed : (ts : List Turn) → Chain (p .walk) ts → Handed n laid after ts → UntilRefused ts → Followed x (p .walk) n laid after ts
       followed ts c d u =
           let y = runnable j (x .path) n laid t (x .reaches) (reaches-lent call-lent) in
           let g = placed-going n laid (j .vehicle) (x .reaches) y (p .walk) after is-placed is-cleared in
           let o = subst (λ (i : ℕ). Ended course i after ts) start-zero (calls-end n laid (p .walk) after g ts c d u) in
-          record { path = run-path; reaches = run-reaches ∙ o .runs; told = told ts o }
+          record { path = run-path; reaches = run-reaches ∙ o .runs; told = told ts o c d (g .rig) }
 
 pub whole-run : WholeRun
 whole-run = record { notLaid = not-laid; notPlaced = not-placed; walked = followed }

@@ -7,10 +7,10 @@ use native.Mathlib.Decide.{decLt}
 use native.Mathlib.Omega.{arith}
 use lib.IntN.{ℤ, _-ℤ_}
 use lib.Signed.{_≤ℤ_, _<ℤ_, clashℤ}
-use Rattle.marks.specs.Count.{sixPoints, pointCount}
+use Rattle.marks.specs.Count.{pointCount}
 use Rattle.path.specs.declared.Station.{Station}
 use Rattle.path.specs.Laying.{PathRuns}
-use Rattle.walk.specs.Drawn.{stationAt}
+use Rattle.walk.specs.Drawn.{view, stationAt}
 use Rattle.reaches.specs.declared.Place.{Place}
 use Rattle.reaches.specs.declared.Best.{Best}
 use Rattle.reaches.specs.declared.Best.the-variants.{Nothing, Found}
@@ -20,8 +20,9 @@ use Rattle.reaches.specs.Cells.{Reaches, cellAt}
 use Rattle.reaches.specs.Widest.{width, widestAmong, answerOf, widestAnswer, IsWidest as IsWidestIn}
 use Rattle.reaches.proofs.WidestLaws.{Right, among-right}
 use Rattle.claim.specs.StationHistory.{Moves, leftOf, rightOf, Kept, History, Lawful, movesOf, runsOf}
-use Rattle.claim.specs.WidestHistory.{widthOf, IsWidest, NoneWhole, Tells}
+use Rattle.claim.specs.WidestHistory.{lastOf, widthOf, IsWidest, NoneWhole, Tells}
 use Rattle.claim.proofs.HistoryKept.{kept, left-lent}
+use Rattle.claim.proofs.RecordKept.{end-sound, end-vehicle}
 use Rattle.claim.proofs.RunKept.{read-off}
 
 -- the widest is one
@@ -115,8 +116,8 @@ module _ (n asked : ℕ) (path : PathRuns) (ms : List Moves) where
     pub answer-tells : Tells W.At (W.Refused 24) n asked path ms (answerOf (widestAmong n asked r))
     answer-tells = tells W.At (W.Refused 24) (λ p q e. cc) (λ p e. let y : _≡_ {A = ℕ} 0 1 = cc in omega arith) answerOf refl (λ p. refl) (widestAmong n asked r) among-told
 
-pub asked-told : (h : History) → Lawful h → (answer : WidestAnswer) → answer ≡ widestAnswer sixPoints (h .asked) (runsOf h)
+pub asked-told : (h : History) → Lawful h → (answer : WidestAnswer) → answer ≡ widestAnswer (view (lastOf h)) (h .asked) (runsOf h)
     → Tells W.At (W.Refused 24) (pointCount (h .vehicle)) (h .asked) (h .path) (movesOf h) answer
 asked-told h l answer e =
-    let q = sym (e ∙ sym (read-off (h .vehicle) (h .asked) (h .path) (runsOf h) (left-lent h l))) in
+    let q = sym (e ∙ sym (read-off (h .vehicle) (view (lastOf h)) (h .asked) (h .path) (runsOf h) (end-vehicle h l) (end-sound h l) (left-lent h l))) in
     subst (Tells W.At (W.Refused 24) (pointCount (h .vehicle)) (h .asked) (h .path) (movesOf h)) q (answer-tells (pointCount (h .vehicle)) (h .asked) (h .path) (movesOf h) (runsOf h) (kept h l))

@@ -18,6 +18,7 @@ use Rattle.walk.specs.Units.{turnUnits}
 use Rattle.walk.specs.Rig.{startVectors, drawStep}
 use Rattle.marks.specs.Count.{pointCount}
 use Rattle.marks.specs.Marks.{allSet}
+use Rattle.points.specs.Corners.{bodyOf, frontCorner, rearCorner, cornerOf}
 use Rattle.points.specs.Ends.{unitPlaces}
 use Rattle.points.specs.Points.{pointAt, rigPoints}
 use Rattle.reaches.specs.Cells.{Reaches, reachRuns, atStations}
@@ -50,5 +51,5 @@ workedRun = record {
 }
 
 pub worked-ensured : Ensured workedRun
-unfolding halfTo nearestSize nearestZ hasLength headingAllowed emptyUnits emptyElements faultOf unitsFault elementsFault vehicleFault judge fullSteps cutsFrom stepsOn stationsFrom stations placedBy turnedBy tooFar hitchOffset foldAllowed lent stationSound pathSound vehicleSound vectorSound vectorsSound recordSound atLast turnUnits startVectors drawStep unitPlaces pointCount allSet pointAt rigPoints atStations reachOf crosses crossedBy crossedFrom widestAmong walkOn runRefusal
+unfolding halfTo nearestSize nearestZ hasLength headingAllowed emptyUnits emptyElements faultOf unitsFault elementsFault vehicleFault judge fullSteps cutsFrom stepsOn stationsFrom stations placedBy turnedBy tooFar hitchOffset foldAllowed lent stationSound pathSound vehicleSound vectorSound vectorsSound recordSound atLast turnUnits startVectors drawStep unitPlaces bodyOf frontCorner rearCorner cornerOf pointCount allSet pointAt rigPoints atStations reachOf crosses crossedBy crossedFrom widestAmong walkOn runRefusal
 worked-ensured = record { answered = refl; path = refl; reaches = refl }

@@ -1,4 +1,4 @@
--- What is never written (01, "Stations and the widest place"): "no step touches the top two bits of a mark", "Entries past the last station are never written".
+-- What is never written (01, "Stations and the widest place": "Entries past the last station are never written"; 02, N3: "no step touches the bits above them").
 use Prim.Native.Nat.{ℕ, _<_}
 use mathlib.Core.Path.{_≡_}
 use mathlib.Core.List.{List}

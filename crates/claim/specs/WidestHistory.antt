@@ -5,11 +5,12 @@ use mathlib.Core.List.{List}
 use lib.ListN.{length, replicate}
 use lib.IntN.{ℤ, pos, negsuc, _-ℤ_}
 use lib.Signed.{_≤ℤ_, _<ℤ_}
-use Rattle.marks.specs.Count.{sixPoints, pointCount}
+use Rattle.marks.specs.Count.{pointCount}
 use Rattle.path.specs.declared.Station.{Station}
 use Rattle.path.specs.Stations.{stations}
 use Rattle.path.specs.Laying.{PathRuns, written}
-use Rattle.walk.specs.Drawn.{Drawn, Call, stationAt, made}
+use Rattle.walk.specs.declared.Walk.{Walk}
+use Rattle.walk.specs.Drawn.{Drawn, view, Call, stationAt, made}
 use Rattle.walk.specs.Rig.{drawnStart}
 use Rattle.reaches.specs.declared.Place.{Place}
 use Rattle.reaches.specs.declared.Best.the-variants.{Nothing, Found}
@@ -19,10 +20,14 @@ use Rattle.reaches.specs.Widest.{widestAnswer}
 use Rattle.stations.specs.Placing.{callOf, startHeading}
 use Rattle.run.specs.declared.Finish.{Finish}
 use Rattle.run.specs.declared.Ran.the-variants as R
-use Rattle.claim.specs.DemandThree.{drawnAnswers}
+use Rattle.claim.specs.DemandThree.{drawnAnswers, lastRecord}
 use Rattle.claim.specs.StationHistory.{Moves, madeMoves, leftOf, rightOf, AllCrossed, History, Lawful, movesOf, runsOf}
 use Rattle.claim.specs.WholeRun.{Run, Ensured}
 use Rattle.run.specs.Worked.{workedJob, workedFinish}
+
+-- the record that the last call left
+abbrev pub lastOf : History → Walk
+lastOf h = lastRecord (h .placing .walk) (h .turns)
 
 abbrev pub widthOf : Station → List Moves → ℤ
 widthOf s ms = rightOf s ms -ℤ leftOf s ms
@@ -70,13 +75,13 @@ pub record FinishTold (x : Run) (f : Finish) : Type 0 where
 abbrev pub lowest : Place
 lowest = record { station = 1; width = pos 2000; left = negsuc 999; right = pos 1000 }
 
--- the claim: of what `widest` answers after an accepted placement and any calls, and of what a run that is finished answers;
+-- the claim: of what `widest` answers after an accepted placement and any calls, handed the record that the last of them left, and of what a run that is finished answers;
 -- and there are such calls, with a later station as wide, or none that the whole rig has crossed, and such a run: the worked job
 pub record WidestHistory : Type 0 where
-  pub asked : (h : History) → Lawful h → (answer : WidestAnswer) → answer ≡ widestAnswer sixPoints (h .asked) (runsOf h)
+  pub asked : (h : History) → Lawful h → (answer : WidestAnswer) → answer ≡ widestAnswer (view (lastOf h)) (h .asked) (runsOf h)
       → Tells W.At (W.Refused 24) (pointCount (h .vehicle)) (h .asked) (h .path) (movesOf h) answer
   pub ran : (x : Run) → Ensured x → (f : Finish) → x .answer ≡ R.Finished f → FinishTold x f
-  pub someTie : (h : History) × Lawful h × (widestAnswer sixPoints (h .asked) (runsOf h) ≡ W.At lowest)
+  pub someTie : (h : History) × Lawful h × (widestAnswer (view (lastOf h)) (h .asked) (runsOf h) ≡ W.At lowest)
       × AllCrossed (pointCount (h .vehicle)) (stationAt (h .path) 2) (movesOf h) × (widthOf (stationAt (h .path) 2) (movesOf h) ≡ pos 2000)
-  pub someNone : (h : History) × Lawful h × (widestAnswer sixPoints (h .asked) (runsOf h) ≡ W.Refused 24)
+  pub someNone : (h : History) × Lawful h × (widestAnswer (view (lastOf h)) (h .asked) (runsOf h) ≡ W.Refused 24)
   pub someRun : (x : Run) × Ensured x × (x .job ≡ workedJob) × (x .answer ≡ R.Finished workedFinish)

@@ -9,7 +9,7 @@ use Rattle.number.proofs.Rows.{sixth-group, cut-short, too-large}
 use Rattle.job.specs.Allowed.{headingAllowed}
 use Rattle.job.specs.Empty.{emptyUnits, emptyElements}
 use Rattle.job.specs.Faults.{faultOf, unitsFault, elementsFault, vehicleFault, judge}
-use Rattle.job_reader.specs.Record.{readUnit, readUnits, readWidths, readVehicle, readStart, readElement, readElements, readPath, readRecord, readJob}
+use Rattle.job_reader.specs.Record.{readBody, readUnit, readUnits, readWidths, readVehicle, readStart, readElement, readElements, readPath, readRecord, readJob}
 use Rattle.path.proofs.Rows.{remainder-last, no-remainder}
 use Rattle.unit.specs.Turn.{placedBy, turnedBy, tooFar}
 use Rattle.unit.specs.Coupling.{hitchOffset, foldAllowed}
@@ -18,6 +18,7 @@ use Rattle.walk.specs.Units.{turnUnits}
 use Rattle.walk.specs.Rig.{startVectors, drawStep}
 use Rattle.marks.specs.Count.{pointCount}
 use Rattle.marks.specs.Marks.{allSet}
+use Rattle.points.specs.Corners.{bodyOf, frontCorner, rearCorner, cornerOf}
 use Rattle.points.specs.Ends.{unitPlaces}
 use Rattle.points.specs.Points.{pointAt, rigPoints}
 use Rattle.reaches.specs.Cells.{atStations}
@@ -30,7 +31,7 @@ _and_ : {A B : Type 0} → A → B → A × B
 a and b = (a, b)
 
 pub convention-rows : Conventions
-unfolding halfTo nearestSize nearestZ hasLength many groups readNumber field signedNumber signedField headingAllowed emptyUnits emptyElements faultOf unitsFault elementsFault vehicleFault judge readUnit readUnits readWidths readVehicle readStart readElement readElements readPath readRecord readJob placedBy turnedBy tooFar hitchOffset foldAllowed lent stationSound pathSound vehicleSound vectorSound vectorsSound recordSound atLast turnUnits startVectors drawStep unitPlaces pointCount allSet pointAt rigPoints atStations reachOf crosses crossedBy crossedFrom placeRefusal
+unfolding halfTo nearestSize nearestZ hasLength many groups readNumber field signedNumber signedField headingAllowed emptyUnits emptyElements faultOf unitsFault elementsFault vehicleFault judge readBody readUnit readUnits readWidths readVehicle readStart readElement readElements readPath readRecord readJob placedBy turnedBy tooFar hitchOffset foldAllowed lent stationSound pathSound vehicleSound vectorSound vectorsSound recordSound atLast turnUnits startVectors drawStep unitPlaces bodyOf frontCorner rearCorner cornerOf pointCount allSet pointAt rigPoints atStations reachOf crosses crossedBy crossedFrom placeRefusal
 convention-rows = record {
   count = refl;
   hold =
@@ -42,6 +43,14 @@ convention-rows = record {
       and (refl, refl) and (refl, refl) and (refl, refl) and (refl, refl)
       -- a hitch on the last unit
       and refl and refl and refl and refl and refl
+      -- the first number
+      and refl and refl and refl and refl and refl
+      -- a body's fields
+      and refl and refl and refl and refl
+      -- the old overhang of a long job
+      and refl and refl and refl
+      -- 4 and 5, unit by unit
+      and refl and refl and refl and refl and refl and refl and refl and refl and refl
       -- an arc's radius
       and refl and refl and refl
       -- over 2,000 steps
@@ -56,7 +65,7 @@ convention-rows = record {
       and refl and refl
       -- unit by unit
       and refl and refl
-      -- the six points
+      -- the table of points
       and refl and refl
       -- reaches
       and refl and refl and refl and refl

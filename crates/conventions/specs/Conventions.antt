@@ -1,4 +1,4 @@
--- Conventions of 01 that no law fixes, such as signs, orders and starting values: the rows of one list, covered by one claim.
+-- Conventions of 01 and of 02, N3, that no law fixes, such as signs, orders and starting values: the rows of one list, covered by one claim.
 use Prim.Native.Nat.{ℕ, _+_}
 use mathlib.Core.Path.{_≡_}
 use mathlib.Core.Bool.{Bool, true, false}
@@ -27,7 +27,7 @@ use Rattle.reaches.specs.Crossing.{reachOf, crosses, crossed}
 use Rattle.stations.specs.Placing.{callOf, placeRefusal, startHeading}
 use Rattle.stations.specs.Stepping.{pointsAt, ifMade}
 use Rattle.worked.specs.Rows.{AllHold, neg, vec}
-use Rattle.conventions.specs.Rigs.{unit, vehicle, vehicleOf, single, hitchedLast, vectors, rig, singleAt, station, north, call, callMarks, straight, rightBend, leftBend, job, threeStations, tooFarNorth, standing, threeUnits, thirdSquare, secondSquare, slanted, trailerBehind, aside, shortTurnedBack, shortThird, unusedVector}
+use Rattle.conventions.specs.Rigs.{unit, vehicle, vehicleOf, single, hitchedLast, bodied, longVehicle, afterOverhang, vectors, rig, singleAt, station, north, call, callMarks, straight, rightBend, leftBend, job, threeStations, tooFarNorth, standing, threeUnits, thirdSquare, secondSquare, slanted, trailerBehind, aside, shortTurnedBack, shortThird, unusedVector}
 
 -- a question, and last the answer
 pub data Row : Type 0 where
@@ -95,6 +95,31 @@ conventionRows =
     ∷ jobRefused (0x02 ∷ 0x88 ∷ 0x27 ∷ 0x8F ∷ 0x4E ∷ 0x00 ∷ 0xF0 ∷ 0x2E ∷ 0x02 ∷ 0x00 ∷ 0xE8 ∷ 0x07 ∷ 0xD0 ∷ 0x0F ∷ 0xDC ∷ 0x0B ∷ 0x00 ∷ 0x00 ∷ 0x00 ∷ 0x80 ∷ 0x89 ∷ 0x7A ∷ 0x64 ∷ 0x01 ∷ 0xC0 ∷ 0x9A ∷ 0x0C ∷ 0x00 ∷ []) 4 8
     ∷ placementRefused hitchedLast (call 3 threeStations) 27
     ∷ refusedStep (rig hitchedLast 1 (vec (pos 0) (pos 5000) ∷ [])) (call 3 threeStations) (refused 27)
+    -- "A first number of 11 to 14 announces this long job for 1 to 4 units" (02, N3), and any other but 1 to 4 is 3; by value the count is 1 to 4 in a long job too
+    ∷ jobRefused (0x05 ∷ 0x88 ∷ 0x27 ∷ 0x00 ∷ 0x00 ∷ 0xE8 ∷ 0x07 ∷ 0xD0 ∷ 0x0F ∷ 0xDC ∷ 0x0B ∷ 0x00 ∷ afterOverhang) 3 0
+    ∷ jobRefused (0x0A ∷ 0x88 ∷ 0x27 ∷ 0x00 ∷ 0x00 ∷ 0xE8 ∷ 0x07 ∷ 0xD0 ∷ 0x0F ∷ 0xDC ∷ 0x0B ∷ 0x00 ∷ afterOverhang) 3 0
+    ∷ jobRefused (0x0F ∷ 0x88 ∷ 0x27 ∷ 0x00 ∷ 0x00 ∷ 0xE8 ∷ 0x07 ∷ 0xD0 ∷ 0x0F ∷ 0xDC ∷ 0x0B ∷ 0x00 ∷ afterOverhang) 3 0
+    ∷ jobJudged (job (longVehicle 11 (bodied (pos 0) 1500 ∷ []) 0) (straight 200000 ∷ [])) 3
+    ∷ jobJudged (job (longVehicle 1 (bodied (pos 0) 1500 ∷ []) 0) (straight 200000 ∷ [])) 0
+    -- "A body's overhang above 50,000 or half width outside 1,000 to 20,000 is 5 at that field", the fields standing at bytes 5, 7 and 9
+    ∷ jobRefused (0x0B ∷ 0x88 ∷ 0x27 ∷ 0x00 ∷ 0x00 ∷ 0xD1 ∷ 0x86 ∷ 0x03 ∷ 0xD0 ∷ 0x0F ∷ 0xDC ∷ 0x0B ∷ 0x00 ∷ afterOverhang) 5 5
+    ∷ jobRefused (0x0B ∷ 0x88 ∷ 0x27 ∷ 0x00 ∷ 0x00 ∷ 0xE8 ∷ 0x07 ∷ 0xD1 ∷ 0x86 ∷ 0x03 ∷ 0xDC ∷ 0x0B ∷ 0x00 ∷ afterOverhang) 5 7
+    ∷ jobRefused (0x0B ∷ 0x88 ∷ 0x27 ∷ 0x00 ∷ 0x00 ∷ 0xE8 ∷ 0x07 ∷ 0xD0 ∷ 0x0F ∷ 0xE7 ∷ 0x07 ∷ 0x00 ∷ afterOverhang) 5 9
+    ∷ jobRefused (0x0B ∷ 0x88 ∷ 0x27 ∷ 0x00 ∷ 0x00 ∷ 0xE8 ∷ 0x07 ∷ 0xD0 ∷ 0x0F ∷ 0xA1 ∷ 0x9C ∷ 0x01 ∷ 0x00 ∷ afterOverhang) 5 9
+    -- "the old front overhang must be 0, else 5", at byte 11; by value, and by 27 of a placement
+    ∷ jobRefused (0x0B ∷ 0x88 ∷ 0x27 ∷ 0x00 ∷ 0x00 ∷ 0xE8 ∷ 0x07 ∷ 0xD0 ∷ 0x0F ∷ 0xDC ∷ 0x0B ∷ 0x01 ∷ afterOverhang) 5 11
+    ∷ jobJudged (job (longVehicle 1 (bodied (pos 0) 1500 ∷ []) 1) (straight 200000 ∷ [])) 5
+    ∷ placementRefused (longVehicle 1 (bodied (pos 0) 1500 ∷ []) 1) (call 3 threeStations) 27
+    -- "with the body's three fields after each fold limit": 4 of a unit before 5 of its body, and that before 4 of the next unit; a short job's bodies "are never read"
+    ∷ jobRefused (0x0B ∷ 0x88 ∷ 0x27 ∷ 0x02 ∷ 0x00 ∷ 0xE8 ∷ 0x07 ∷ 0xD0 ∷ 0x0F ∷ 0xE7 ∷ 0x07 ∷ 0x00 ∷ afterOverhang) 4 3
+    ∷ jobRefused (0x0C ∷ 0x88 ∷ 0x27 ∷ 0x00 ∷ 0x00 ∷ 0xE8 ∷ 0x07 ∷ 0xD0 ∷ 0x0F ∷ 0xE7 ∷ 0x07 ∷ 0x87 ∷ 0x27 ∷ 0x00 ∷ 0x00 ∷ 0xE8 ∷ 0x07 ∷ 0xD0 ∷ 0x0F ∷ 0xDC ∷ 0x0B ∷ 0x00 ∷ afterOverhang) 5 9
+    ∷ jobRefused (0x0C ∷ 0x88 ∷ 0x27 ∷ 0x00 ∷ 0x00 ∷ 0xE8 ∷ 0x07 ∷ 0xD0 ∷ 0x0F ∷ 0xDC ∷ 0x0B ∷ 0x87 ∷ 0x27 ∷ 0x00 ∷ 0x00 ∷ 0xE8 ∷ 0x07 ∷ 0xD0 ∷ 0x0F ∷ 0xDC ∷ 0x0B ∷ 0x00 ∷ afterOverhang) 4 11
+    ∷ jobJudged (job (longVehicle 1 (bodied (pos 1) 999 ∷ []) 0) (straight 200000 ∷ [])) 4
+    ∷ jobJudged (job (longVehicle 1 (bodied (pos 0) 999 ∷ []) 0) (straight 200000 ∷ [])) 5
+    ∷ jobJudged (job (longVehicle 2 (bodied (pos 0) 999 ∷ bodied (pos 1) 1500 ∷ []) 0) (straight 200000 ∷ [])) 5
+    ∷ jobJudged (job (vehicleOf (bodied (pos 0) 999 ∷ [])) (straight 200000 ∷ [])) 0
+    ∷ placementRefused (longVehicle 1 (bodied (pos 0) 999 ∷ []) 0) (call 3 threeStations) 27
+    ∷ placementRefused (longVehicle 1 (bodied (pos 0) 1500 ∷ []) 0) (call 3 threeStations) 0
     -- the radius "0, or size 20,000 to 1,000,000", and "Radius 0 is a straight": by value an arc of radius 0 is none, to either side
     ∷ jobJudged (job single (rightBend 1000 0 ∷ [])) 8
     ∷ jobJudged (job single (leftBend 1000 0 ∷ [])) 8
@@ -127,11 +152,11 @@ conventionRows =
     -- "A step treats units from the first": 23 of unit 2 before 22 of unit 3; then 22 of unit 3 alone
     ∷ refusedStep (shortThird (pos 0)) (call 2 (north (pos 0 ∷ pos 6000 ∷ []))) (refusedAt 23 2)
     ∷ refusedStep (shortThird (neg 1000)) (call 2 (north (pos 0 ∷ pos 6000 ∷ []))) (refusedAt 22 3)
-    -- the table of the six points, "along" ahead of the base and "side" to the right: due north, and due east
+    -- the table of the points, "along" ahead of the base and "side" to the right: due north, and due east
     ∷ pointsPlaced (vehicle (unit 50000 (pos 0) (pos 0) ∷ []) 10000 12000 11000) (vec (pos 0) (pos 50000) ∷ []) (vec (pos 0) (pos 65000))
-    (vec (neg 12000) (pos 75000) ∷ vec (pos 12000) (pos 75000) ∷ vec (neg 12000) (pos 65000) ∷ vec (pos 12000) (pos 65000) ∷ vec (neg 11000) (pos 15000) ∷ vec (pos 11000) (pos 15000) ∷ [])
+    (vec (neg 12000) (pos 75000) ∷ vec (pos 12000) (pos 75000) ∷ vec (neg 12000) (pos 65000) ∷ vec (pos 12000) (pos 65000) ∷ vec (neg 11000) (pos 15000) ∷ vec (pos 11000) (pos 15000) ∷ vec (neg 11000) (pos 15000) ∷ vec (pos 11000) (pos 15000) ∷ [])
     ∷ pointsPlaced (vehicle (unit 50000 (pos 0) (pos 0) ∷ []) 10000 12000 11000) (vec (pos 50000) (pos 0) ∷ []) (vec (pos 65000) (pos 0))
-    (vec (pos 75000) (pos 12000) ∷ vec (pos 75000) (neg 12000) ∷ vec (pos 65000) (pos 12000) ∷ vec (pos 65000) (neg 12000) ∷ vec (pos 15000) (pos 11000) ∷ vec (pos 15000) (neg 11000) ∷ [])
+    (vec (pos 75000) (pos 12000) ∷ vec (pos 75000) (neg 12000) ∷ vec (pos 65000) (pos 12000) ∷ vec (pos 65000) (neg 12000) ∷ vec (pos 15000) (pos 11000) ∷ vec (pos 15000) (neg 11000) ∷ vec (pos 15000) (pos 11000) ∷ vec (pos 15000) (neg 11000) ∷ [])
     -- "Its reach at a station .. negative to the left": a point right and left of a station due north, and due east
     ∷ reached (station (vec (pos 100) (pos 200)) (vec (pos 0) (pos 1000000))) (vec (pos 103) (pos 207)) (pos 3)
     ∷ reached (station (vec (pos 100) (pos 200)) (vec (pos 0) (pos 1000000))) (vec (pos 97) (pos 207)) (neg 3)
@@ -140,15 +165,15 @@ conventionRows =
     -- "A point crosses a station in a step when (A − P) · g goes from below 0 to 0 or more": from −1 to 0, and from 0 to 1
     ∷ crossing (station (vec (pos 0) (pos 0)) (vec (pos 998288) (pos 58507))) (vec (neg 2376) (pos 40541)) (vec (pos 0) (pos 0)) true
     ∷ crossing (station (vec (pos 0) (pos 0)) (vec (pos 998288) (pos 58507))) (vec (pos 0) (pos 0)) (vec (pos 2376) (neg 40541)) false
-    -- "Then the reaches at both ends of that move enter the station's left (smallest) and right (greatest), and the point's bit is set in its mark; no step touches the top two bits":
-    -- the rear wheels cross station 0, the front ones and the corners the last; none crosses the station between them
+    -- "Then the reaches at both ends of that move enter the station's left (smallest) and right (greatest), and the point's bit is set in its mark"; "no step touches the bits above them" (02, N3):
+    -- the rear wheels and corners cross station 0, the front ones the last; none crosses the station between them
     ∷ entered (singleAt 1) 3 threeStations
-    (reachRuns (pos 2000000000 ∷ neg 9 ∷ neg 2500 ∷ []) (neg 2000000000 ∷ pos 9 ∷ pos 1999 ∷ []) (192 ∷ 0 ∷ 64 ∷ []))
-    (reachRuns (neg 1500 ∷ neg 9 ∷ neg 2500 ∷ []) (pos 1500 ∷ pos 9 ∷ pos 2000 ∷ []) (240 ∷ 0 ∷ 79 ∷ []))
+    (reachRuns (pos 2000000000 ∷ neg 9 ∷ neg 2500 ∷ []) (neg 2000000000 ∷ pos 9 ∷ pos 1999 ∷ []) (4294967040 ∷ 0 ∷ 256 ∷ []))
+    (reachRuns (neg 1500 ∷ neg 9 ∷ neg 2500 ∷ []) (pos 1500 ∷ pos 9 ∷ pos 2000 ∷ []) (4294967280 ∷ 0 ∷ 271 ∷ []))
     -- "A cleared station has left 2,000,000,000, right −2,000,000,000, mark 0", and the entry past the stations asked for stays
     ∷ clearedRuns 2
-    (reachRuns (pos 1 ∷ pos 2 ∷ pos 3 ∷ []) (pos 1 ∷ pos 2 ∷ pos 3 ∷ []) (255 ∷ 255 ∷ 255 ∷ []))
-    (reachRuns (pos 2000000000 ∷ pos 2000000000 ∷ pos 3 ∷ []) (neg 2000000000 ∷ neg 2000000000 ∷ pos 3 ∷ []) (0 ∷ 0 ∷ 255 ∷ []))
+    (reachRuns (pos 1 ∷ pos 2 ∷ pos 3 ∷ []) (pos 1 ∷ pos 2 ∷ pos 3 ∷ []) (4294967295 ∷ 4294967295 ∷ 4294967295 ∷ []))
+    (reachRuns (pos 2000000000 ∷ pos 2000000000 ∷ pos 3 ∷ []) (neg 2000000000 ∷ neg 2000000000 ∷ pos 3 ∷ []) (0 ∷ 0 ∷ 4294967295 ∷ []))
     -- "Tested in the order 21, 26, 27, 25": a step call that is wrong in every way, and as each is mended; then it is made
     ∷ refusedStep unusedVector (callMarks 3 2 tooFarNorth) (refused 21)
     ∷ refusedStep unusedVector (call 3 tooFarNorth) (refused 26)
@@ -167,5 +192,5 @@ conventionRows =
 
 -- the claim
 pub record Conventions : Type 0 where
-  pub count : length conventionRows ≡ 59
+  pub count : length conventionRows ≡ 80
   pub hold : AllHold Holds conventionRows

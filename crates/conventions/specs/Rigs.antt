@@ -5,13 +5,15 @@ use lib.ListN.{length, replicate}
 use lib.Seq.{sets}
 use lib.IntN.{ℤ, pos}
 use Rattle.plane.specs.declared.Vec2.{Vec2}
+use Rattle.job.specs.declared.Body.{Body}
+use Rattle.job.specs.declared.Form.the-variants.{Short, Long}
 use Rattle.job.specs.declared.Unit.{Unit as VehicleUnit}
 use Rattle.job.specs.declared.Vehicle.{Vehicle}
 use Rattle.job.specs.declared.Element.{Element}
 use Rattle.job.specs.declared.Curve.the-variants.{Straight, Arc}
 use Rattle.job.specs.declared.Side.the-variants.{Left, Right}
 use Rattle.job.specs.declared.Job.{Job}
-use Rattle.job.specs.Empty.{emptyUnits}
+use Rattle.job.specs.Empty.{emptyBody, emptyUnits}
 use Rattle.path.specs.declared.Station.{Station}
 use Rattle.path.specs.Laying.{PathRuns, pathRuns}
 use Rattle.walk.specs.Drawn.{Drawn, Call}
@@ -19,11 +21,12 @@ use Rattle.walk.specs.Rig.{zeroVector}
 use Rattle.worked.specs.Rows.{neg, vec}
 
 abbrev pub unit : ℕ → ℤ → ℤ → VehicleUnit
-unit wheelbase hitch fold = record { wheelbase = wheelbase; hitch = hitch; fold = fold }
+unit wheelbase hitch fold = record { wheelbase = wheelbase; hitch = hitch; fold = fold; body = emptyBody }
 
 -- the units of a vehicle, its overhang and its half widths at the front and at the rear
 abbrev pub vehicle : List VehicleUnit → ℕ → ℕ → ℕ → Vehicle
 vehicle us overhang front rear = record {
+  form = Short;
   count = length us;
   units = sets emptyUnits 0 us;
   overhang = overhang;
@@ -41,6 +44,25 @@ single = vehicleOf (unit 5000 (pos 0) (pos 0) ∷ [])
 
 abbrev pub hitchedLast : Vehicle
 hitchedLast = vehicleOf (unit 5000 (pos 1) (pos 0) ∷ [])
+
+-- a unit of the shortest wheelbase with a body, by its hitch and the body's half width
+abbrev pub bodied : ℤ → ℕ → VehicleUnit
+bodied hitch half = record { wheelbase = 5000; hitch = hitch; fold = pos 0; body = record { «front_overhang» = 1000; «rear_overhang» = 2000; «half_width» = half } }
+
+-- a long vehicle by its count, its units and its old overhang
+abbrev pub longVehicle : ℕ → List VehicleUnit → ℕ → Vehicle
+longVehicle count us overhang = record {
+  form = Long;
+  count = count;
+  units = sets emptyUnits 0 us;
+  overhang = overhang;
+  «front_half_width» = 2000;
+  «rear_half_width» = 1500;
+}
+
+-- the bytes of a record from its front half width on: widths 2,000 and 1,500, from the origin due north in steps of 100, one straight of 200,000
+abbrev pub afterOverhang : List ℕ
+afterOverhang = 0xD0 ∷ 0x0F ∷ 0xDC ∷ 0x0B ∷ 0x00 ∷ 0x00 ∷ 0x00 ∷ 0x80 ∷ 0x89 ∷ 0x7A ∷ 0x64 ∷ 0x01 ∷ 0xC0 ∷ 0x9A ∷ 0x0C ∷ 0x00 ∷ []
 
 abbrev pub vectors : List Vec2 → List Vec2
 vectors ds = sets (replicate 4 zeroVector) 0 ds

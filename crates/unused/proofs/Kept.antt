@@ -1,14 +1,16 @@
 -- What the entries ensure of jobs and walk records that agree but for unused entries. Assumes nothing.
 use Prim.Native.Nat.{ℕ, zero, suc, _-_, _<_}
 use mathlib.Core.Path.{_≡_, refl, _∙_, sym, ap}
-use mathlib.Core.List.{List}
+use mathlib.Core.List.{List, [], _∷_, map}
 use native.Mathlib.Omega.{arith}
-use lib.ListN.{length, take, set, getD}
+use lib.ListN.{length, take, set, getD, List·getD-map}
 use lib.Seq.{take-set-lt, getD-take}
+use Rattle.job.specs.declared.Form.{Form}
+use Rattle.job.specs.declared.Form.the-variants.{Short, Long}
 use Rattle.job.specs.declared.Unit.{Unit as VehicleUnit}
 use Rattle.job.specs.declared.Vehicle.{Vehicle}
 use Rattle.job.specs.declared.Job.{Job}
-use Rattle.job.specs.Empty.{emptyUnit}
+use Rattle.job.specs.Empty.{emptyUnit, clearedUnit}
 use Rattle.path.specs.Stations.{stations}
 use Rattle.path.specs.Laying.{PathRuns, layAnswer}
 use Rattle.walk.specs.declared.StepAnswer.{StepAnswer}
@@ -19,6 +21,7 @@ use Rattle.walk.specs.Drawn.{Drawn, view, Call, Outcome, made, refused, refused
 use Rattle.walk.specs.Rig.{Stepped, drawStep}
 use Rattle.marks.proofs.CountLaws.{same-count}
 use Rattle.reaches.specs.Cells.{Reaches}
+use Rattle.reaches.specs.Widest.{widestAnswer}
 use Rattle.stations.specs.declared.Placing.{Placing}
 use Rattle.stations.specs.Placing.{placeRefusal, unlessRefused, startHeading, PlaceEnsures}
 use Rattle.stations.specs.Stepping.{StepEnsures}
@@ -29,10 +32,12 @@ use Rattle.ranking.specs.declared.Listed.{Listed}
 use Rattle.bogie.specs.Settings.{Rail, settingAt, lastSetting, unitSet, vehicleSet, jobSet}
 use Rattle.bogie.specs.Fitting.{fitting}
 use Rattle.bogie.specs.List.{listRefusal, ranAt, ListEnsures}
-use Rattle.unused.specs.Same.{SameVehicle, SameJob, SameRig}
+use Rattle.unused.specs.Same.{unitsRead, SameVehicle, SameJob, SameRig}
 use Rattle.unused.specs.Unused.{SameCall, SameRun, Unused}
 use Rattle.unused.proofs.SameJobs.{vehicle-fault, emptied, fault, bytes, laid-stations, laid-answer, laid-runs}
-use Rattle.unused.proofs.SameWalks.{vehicle-sound, started, points-same, stepped, AlikeCourse, walked}
+use Rattle.unused.proofs.SameRigs.{vehicle-sound, started, record-sound, stepped}
+use Rattle.unused.proofs.SamePoints.{points-same}
+use Rattle.unused.proofs.SameWalks.{AlikeCourse, walked}
 use Rattle.unused.proofs.Examples.{some-jobs, some-steps}
 
 place-refusal : (v u : Vehicle) → SameVehicle v u → (c : Call) → placeRefusal v c ≡ placeRefusal u c
@@ -77,6 +82,10 @@ stepping w x e c before r q after other h g =
       runs = rw (h .runs, g .runs, d .answer, points-same (view w) (view x) e c, points-same (drawStep (view w) c .state) (drawStep (view x) c .state) (d .state) c);
     }
 
+widest-same : (s t : Drawn) → SameRig s t → (asked : ℕ) (runs : Reaches) → widestAnswer s asked runs ≡ widestAnswer t asked runs
+unfolding widestAnswer
+widest-same s t e asked runs = rw (record-sound s t e asked, same-count (s .vehicle) (t .vehicle) (e .vehicle .count))
+
 -- a whole job
 ran-same : (asked : ℕ) (path : PathRuns) (x y : Course) → AlikeCourse x y → ranOver asked path x ≡ ranOver asked path y
 ran-same asked path x y e = rw (e .answer, e .runs) (by (y .answer))
@@ -113,12 +122,30 @@ in-use w (suc n) us =
     let l : suc n - 1 < suc n = omega arith in
     rw (take-set-lt (suc n) us (suc n - 1) (unitSet (getD us (suc n - 1) emptyUnit) w) l, getD-take (suc n) us (suc n - 1) emptyUnit l) refl
 
+-- and with or without the bodies
+map-set : {A B : Type 0} (f : A → B) (l : List A) (i : ℕ) (y : A) → map f (set l i y) ≡ set (map f l) i (f y)
+map-set f [] i y = refl
+map-set f (x ∷ xs) zero y = refl
+map-set f (x ∷ xs) (suc i) y = rw (map-set f xs i y)
+
+empty-cleared : (form : Form) → clearedUnit form emptyUnit ≡ emptyUnit
+empty-cleared Short = refl
+empty-cleared Long = refl
+
+put-cleared : (form : Form) (w n : ℕ) (us : List VehicleUnit) → map (clearedUnit form) (put w n us) ≡ put w n (map (clearedUnit form) us)
+put-cleared form w n us =
+    let e : getD (map (clearedUnit form) us) (n - 1) emptyUnit ≡ clearedUnit form (getD us (n - 1) emptyUnit) =
+    ap (getD (map (clearedUnit form) us) (n - 1)) (sym (empty-cleared form)) ∙ List·getD-map (clearedUnit form) us (n - 1) emptyUnit in
+    map-set (clearedUnit form) us (n - 1) (unitSet (getD us (n - 1) emptyUnit) w) ∙ ap (λ (u : VehicleUnit). set (map (clearedUnit form) us) (n - 1) (unitSet u w)) (sym e)
+
+read-set : (v : Vehicle) (w : ℕ) → unitsRead (vehicleSet v w) ≡ put w (v .count) (unitsRead v)
+read-set v w = ap (map (clearedUnit (v .form))) (in-use w (v .count) (v .units)) ∙ put-cleared (v .form) w (v .count) (take (v .count) (v .units))
+
 vehicle-set : (v u : Vehicle) → SameVehicle v u → (w : ℕ) → SameVehicle (vehicleSet v w) (vehicleSet u w)
 vehicle-set v u s w = record {
+  form = s .form;
   count = s .count;
-  units =
-      in-use w (v .count) (v .units) ∙ ap (put w (v .count)) (s .units) ∙ ap (λ (n : ℕ). put w n (take (u .count) (u .units))) (s .count)
-      ∙ sym (in-use w (u .count) (u .units));
+  units = read-set v w ∙ ap (put w (v .count)) (s .units) ∙ ap (λ (n : ℕ). put w n (unitsRead u)) (s .count) ∙ sym (read-set u w);
   overhang = s .overhang;
   frontHalfWidth = s .frontHalfWidth;
   rearHalfWidth = s .rearHalfWidth;
@@ -162,6 +189,7 @@ unused = record {
       (rw (h .answered, g .answered, laid-answer j k s before), rw (h .runs, g .runs, laid-answer j k s before, laid-runs j k s (layAnswer k before) before));
   placed = placing;
   stepped = stepping;
+  widest = λ w x e asked runs a b h g. rw (h, g, widest-same (view w) (view x) e asked runs);
   ran = running;
   listed = listing;
   someJobs = some-jobs;

@@ -1,5 +1,5 @@
--- "Unused units come back zero and unused elements as straights of length 0; nothing else reads them" (01, "The job record"): what the entries ensure of two
--- jobs, vehicles or walk records that agree on everything but unused entries is the same.
+-- "Unused units come back zero and unused elements as straights of length 0; nothing else reads them" (01, "The job record"), "A short job's body fields come
+-- back zero and are never read" (02, N3): what the entries ensure of two jobs, vehicles or walk records that agree on everything but unused entries is the same.
 use Prim.Native.Nat.{ℕ}
 use mathlib.Core.Path.{_≡_}
 use mathlib.Core.List.{List}
@@ -17,7 +17,9 @@ use Rattle.path.specs.Laying.{PathRuns, LayEnsures}
 use Rattle.walk.specs.declared.Walk.{Walk}
 use Rattle.walk.specs.declared.Advanced.{Advanced}
 use Rattle.walk.specs.Drawn.{view, Call}
+use Rattle.reaches.specs.declared.WidestAnswer.{WidestAnswer}
 use Rattle.reaches.specs.Cells.{Reaches}
+use Rattle.reaches.specs.Widest.{widestAnswer}
 use Rattle.stations.specs.declared.Placing.{Placing}
 use Rattle.stations.specs.Placing.{PlaceEnsures}
 use Rattle.stations.specs.Stepping.{StepEnsures}
@@ -29,7 +31,7 @@ use Rattle.bogie.specs.List.{ListEnsures}
 use Rattle.unused.specs.Same.{SameVehicle, SameJob, SameRig}
 use Rattle.unused.specs.Witnesses.{SomeJobs, SomeSteps}
 
--- two calls: the same answer, records that agree but for unused units, and the same runs
+-- two calls: the same answer, records that agree but for unused entries, and the same runs
 pub record SameCall {A : Type 0} (a b : A) (w x : Walk) (after other : Reaches) : Type 0 where
   pub answer : a ≡ b
   pub walk : SameRig (view w) (view x)
@@ -62,6 +64,9 @@ pub record Unused : Type 0 where
   pub stepped : (w x : Walk) → SameRig (view w) (view x)
       → (c : Call) (before : Reaches) (r q : Advanced) (after other : Reaches)
       → StepEnsures w c before r after → StepEnsures x c before q other → SameCall (r .answer) (q .answer) (r .walk) (q .walk) after other
+  -- asked for the widest place among the same stations, in the same three runs
+  pub widest : (w x : Walk) → SameRig (view w) (view x) → (asked : ℕ) (runs : Reaches) (a b : WidestAnswer)
+      → a ≡ widestAnswer (view w) asked runs → b ≡ widestAnswer (view x) asked runs → a ≡ b
   -- run on the same seven runs
   pub ran : (j k : Job) → SameJob j k → (p : PathRuns) (r : Reaches) (a b : Ran) (p' q' : PathRuns) (r' s' : Reaches)
       → RunEnsures j p r a p' r' → RunEnsures k p r b q' s' → SameRun a b p' q' r' s'

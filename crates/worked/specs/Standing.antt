@@ -3,9 +3,10 @@ use mathlib.Core.Path.{_≡_}
 use mathlib.Core.List.{[], _∷_}
 use lib.IntN.{ℤ, pos}
 use Rattle.plane.specs.declared.Vec2.{Vec2}
+use Rattle.job.specs.declared.Form.the-variants.{Short}
 use Rattle.job.specs.declared.Unit.{Unit as VehicleUnit}
 use Rattle.job.specs.declared.Vehicle.{Vehicle}
-use Rattle.job.specs.Empty.{emptyUnit}
+use Rattle.job.specs.Empty.{emptyBody, emptyUnit}
 use Rattle.path.specs.Laying.{pathRuns}
 use Rattle.unit.specs.Turn.{turnedBy}
 use Rattle.walk.specs.Drawn.{Drawn, Call, Outcome}
@@ -13,10 +14,11 @@ use Rattle.walk.specs.Rig.{zeroVector, drawStep}
 
 -- a unit of wheelbase 50,000 with its hitch at the rear axle
 abbrev pub unitOf : ℤ → VehicleUnit
-unitOf limit = record { wheelbase = 50000; hitch = pos 0; fold = limit }
+unitOf limit = record { wheelbase = 50000; hitch = pos 0; fold = limit; body = emptyBody }
 
 abbrev pub vehicleOf : ℤ → Vehicle
 vehicleOf limit = record {
+  form = Short;
   count = 2;
   units = unitOf (pos 0) ∷ unitOf limit ∷ emptyUnit ∷ emptyUnit ∷ [];
   overhang = 0;
