@@ -42,11 +42,11 @@ def whole(value):
 
 
 def job_figures(units, start, step, elements):
-    """A job's numbers; unused units are zero, and a coupling may fold freely."""
-    figures = [len(units)]
+    """A short job's numbers; bodies and unused units are zero, and a coupling may fold freely."""
+    figures = [0, len(units)]
     for u in range(4):
         wheelbase, hitch = units[u] if u < len(units) else (0, 0)
-        figures += [wheelbase, hitch, -1_000 if 0 < u < len(units) else 0]
+        figures += [wheelbase, hitch, -1_000 if 0 < u < len(units) else 0, 0, 0, 0]
     figures += WIDTHS + [0, 0, *start, step, len(elements), len(elements)]
     return figures + [value for element in elements for value in element]
 

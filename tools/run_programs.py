@@ -21,6 +21,7 @@ import tty
 
 sys.dont_write_bytecode = True  # keeps the repository free of compiled files
 
+from turning.long_settings_jobs import long_rows  # noqa: E402
 from turning.record import Refused, read_job  # noqa: E402
 from turning.settings import numbers_of, settings  # noqa: E402
 from turning.settings_jobs import given_rows  # noqa: E402
@@ -104,8 +105,14 @@ def table_jobs():
     return jobs
 
 
+def steps_of(text):
+    """The steps of a job that is walked to the end, none where it is refused."""
+    return int(text.split()[1]) if text.startswith(b"steps") else None
+
+
 def longest_of(jobs):
-    longest = max((data for data, text in jobs.items() if text.startswith(b"steps")), key=len)
+    """The longest record of at most 300 steps; its lists are worked out here, for which longer walks would take minutes."""
+    longest = max((data for data, text in jobs.items() if (steps_of(text) or 301) <= 300), key=len)
     if len(jobs) < 500 or len(longest) < 400:
         raise SystemExit("the tables have %d jobs, the longest of %d bytes: too few" % (len(jobs), len(longest)))
     return longest
@@ -152,9 +159,9 @@ def own_setting(data, text):
 
 def list_inputs(jobs):
     """Jobs with three arguments each: those of the calls, the tables' shorter ones, and arguments at their ends."""
-    inputs = [(job_bytes(job), list(map(str, numbers))) for job, numbers in given_rows()]
-    short = [data for data, text in jobs.items() if text.startswith(b"steps") and int(text.split()[1]) <= 60]
-    inputs += [(data, [str(5_000 + 4_000 * k), "3000", "9"]) for k, data in enumerate(short[::5])]
+    inputs = [(job_bytes(job), list(map(str, numbers))) for job, numbers in given_rows() + long_rows()]
+    short = [data for data, text in jobs.items() if (steps_of(text) or 61) <= 60]
+    inputs += [(data, [str(5_000 + 4_000 * (k % 40)), "3000", "9"]) for k, data in enumerate(short[::5])]
     sound, refused = stored(ROOT / "crates" / "sweep", "stdin"), b"\0"
     return inputs + [(data, words) for words in ALLOWED for data in (sound, refused)]
 

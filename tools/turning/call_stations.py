@@ -1,13 +1,13 @@
 """Calls of placement, step and widest, continued: lent runs, paths, the drawn rule, equal widths."""
 
 from .call_turns import lengths_at_the_edge, some_vector
-from .call_walks import (EMPTY_RECORD, FAR, LEAST_I32, MOST_I32, MOST_USIZE, ODD_RECORD, laid, midway, small_job,
-                         stale_reaches, unsound_records, unsound_vehicles, whole_walk, with_unit, with_vector)
+from .call_walks import (EMPTY_RECORD, FAR, LEAST_I32, MOST_I32, MOST_U32, MOST_USIZE, ODD_RECORD, laid, midway, small_job,
+                         stale_reaches, standing, unsound_records, unsound_vehicles, whole_walk, with_unit, with_vector)
 from .calls import line_place, line_step, line_widest
 from .plane import N
-from .record import LEFT, NO_UNIT, RIGHT, STRAIGHT, Unit, Vehicle
+from .record import LEFT, NO_UNIT, RIGHT, SHORT, STRAIGHT, Unit, Vehicle
 from .rigs import HEADINGS_INSIDE, HEADINGS_OUTSIDE, some_heading
-from .walk import ZERO, Runs, Walk
+from .walk import ZERO, Runs, Walk, own_bits
 
 
 def one_short(runs, which, asked):
@@ -48,7 +48,7 @@ def record_calls():
 
 def single_unit(wheelbase, vectors):
     """A step of one unit to (900, 2,000), its record as handed in."""
-    vehicle = Vehicle(1, [Unit(wheelbase, 0, 0)] + [NO_UNIT] * 3, 0, 1_000, 1_000)
+    vehicle = Vehicle(SHORT, 1, [Unit(wheelbase, 0, 0)] + [NO_UNIT] * 3, 0, 1_000, 1_000)
     runs = Runs([0, 900], [0, 2_000], [0, 0], [N, N], *stale_reaches(2))
     return line_step(Walk(vehicle, 0, vectors), 2, runs)
 
@@ -109,7 +109,7 @@ def standing_still(vectors, folds, wheelbases, move=(0, 0)):
     count = len(vectors)
     units = [Unit(w, 0, f) for w, f in zip(wheelbases, folds)] + [NO_UNIT] * (4 - count)
     runs = Runs([0, move[0], 5], [0, move[1], 5], [0, 0, N], [N, N, 0], *stale_reaches(3))
-    return line_step(Walk(Vehicle(count, units, 0, 1_000, 1_000), 0, vectors + [ZERO] * (4 - count)), 3, runs)
+    return line_step(Walk(Vehicle(SHORT, count, units, 0, 1_000, 1_000), 0, vectors + [ZERO] * (4 - count)), 3, runs)
 
 
 def drawn_refusals():
@@ -139,7 +139,8 @@ def some_state(chance):
     units[-1], units[0] = units[-1]._replace(hitch=0), units[0]._replace(fold=0)
     if count == 1:
         units = [Unit(lengths[0], 0, 0)]
-    vehicle = Vehicle(count, units + [NO_UNIT] * (4 - count), chance.below(9_000), 3_000, chance.between(1_000, 9_000))
+    widths = (chance.below(9_000), 3_000, chance.between(1_000, 9_000))
+    vehicle = Vehicle(SHORT, count, units + [NO_UNIT] * (4 - count), *widths)
     vectors = [some_vector(chance, w) for w in lengths] + [ZERO] * (4 - count)
     return Walk(vehicle, chance.below(stations - 1), vectors), stations
 
@@ -154,23 +155,26 @@ def scattered(chance):
     gxs, gys = zip(*(some_heading(chance) for _ in range(length)))
     left = [chance.pick([2_000_000_000, chance.between(-30_000, 30_000)]) for _ in range(length)]
     right = [chance.pick([-2_000_000_000, chance.between(-30_000, 30_000)]) for _ in range(length)]
-    marks = [chance.below(256) for _ in range(length)]
+    marks = [chance.below(1 << 32) for _ in range(length)]
     return line_step(walk, stations, Runs(xs, ys, gxs, gys, left, right, marks))
 
 
 def widest_calls(chance):
-    left, right, marks = [-5, -9, 0, 7, -9, LEAST_I32], [5, 1, 10, -3, 1, MOST_I32], [63, 255, 127, 62, 191, 63]
-    lines = [line_widest(asked, left, right, marks) for asked in (0, 1, 2, 3, 5, 6, 7, 2_001, 2_002, FAR, MOST_USIZE)]
-    lines += [line_widest(6, left[:5], right, marks), line_widest(6, left, right[:5], marks)]
-    lines += [line_widest(6, left, right, marks[:5]), line_widest(1, [], [], [])]
-    lines += [line_widest(6, left, right, [m & 0b11011111 for m in marks]), line_widest(3, left, right, [192, 62, 31])]
-    lines.append(line_widest(3, [2_000_000_000] * 3, [-2_000_000_000, -1_999_999_999, -1_999_999_999], [63] * 3))
-    lines.append(line_widest(2, [MOST_I32, MOST_I32], [LEAST_I32, LEAST_I32], [255, 255]))
-    lines += [line_widest(n, [0] * n, [1] * n, [0] * (n - 1) + [63]) for n in (2_001, 2_002)]
-    for _ in range(6):
-        n = chance.between(8, 14)
+    """One unit has eight points; the bits above them are set in some marks."""
+    left, right, marks = [-5, -9, 0, 7, -9, LEAST_I32], [5, 1, 10, -3, 1, MOST_I32], [255, MOST_U32, 511, 254, 1 << 31 | 255, 255]
+    one = standing(small_job(1, STRAIGHT).vehicle)
+    lines = [line_widest(one, asked, left, right, marks) for asked in (0, 1, 2, 3, 5, 6, 7, 2_001, 2_002, FAR, MOST_USIZE)]
+    lines += [line_widest(one, 6, left[:5], right, marks), line_widest(one, 6, left, right[:5], marks)]
+    lines += [line_widest(one, 6, left, right, marks[:5]), line_widest(one, 1, [], [], [])]
+    lines += [line_widest(one, 6, left, right, [m & ~128 for m in marks]), line_widest(one, 3, left, right, [MOST_U32 - 255, 254, 127])]
+    lines.append(line_widest(one, 3, [2_000_000_000] * 3, [-2_000_000_000, -1_999_999_999, -1_999_999_999], [255] * 3))
+    lines.append(line_widest(one, 2, [MOST_I32, MOST_I32], [LEAST_I32, LEAST_I32], [MOST_U32, 511]))
+    lines += [line_widest(one, n, [0] * n, [1] * n, [0] * (n - 1) + [255]) for n in (2_001, 2_002)]
+    for turn in range(6):
+        rig, n = small_job(turn % 4 + 1, STRAIGHT).vehicle, chance.between(8, 14)
+        own = own_bits(rig)
         runs = [[chance.between(0, 3) for _ in range(n)] for _ in range(2)]
-        lines.append(line_widest(n - 2, *runs, [chance.pick([63, 255, 127, 0]) for _ in range(n)]))
+        lines.append(line_widest(standing(rig), n - 2, *runs, [chance.pick([own, MOST_U32, 2 * own + 1, 0]) for _ in range(n)]))
     return lines
 
 

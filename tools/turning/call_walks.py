@@ -3,22 +3,24 @@
 from .call_turns import FAR_VECTORS
 from .calls import line_place, line_step, line_widest
 from .path import lay
-from .record import NO_UNIT, RIGHT, STRAIGHT, Refused, Unit, Vehicle, total_steps
-from .walk import ZERO, Runs, Walk, place, step
+from .record import LONG, NO_UNIT, RIGHT, SHORT, STRAIGHT, Body, Refused, Unit, Vehicle, total_steps
+from .walk import ZERO, Runs, Walk, own_bits, place, step
 from .worked import make_job
 
 MOST_U32, LEAST_I32, MOST_I32, MOST_USIZE = 4_294_967_295, -(1 << 31), (1 << 31) - 1, (1 << 64) - 1
 FAR = 1 << 63
-EMPTY_RECORD = Walk(Vehicle(0, [NO_UNIT] * 4, 0, 0, 0), 0, [ZERO] * 4)
-ODD_RECORD = Walk(Vehicle(MOST_USIZE, [Unit(MOST_U32, LEAST_I32, MOST_I32)] * 4, MOST_U32, 1, 0), FAR,
+WILD_BODY = Body(MOST_U32, 50_001, 999)
+EMPTY_RECORD = Walk(Vehicle(SHORT, 0, [NO_UNIT] * 4, 0, 0, 0), 0, [ZERO] * 4)
+ODD_RECORD = Walk(Vehicle(LONG, MOST_USIZE, [Unit(MOST_U32, LEAST_I32, MOST_I32, WILD_BODY)] * 4, MOST_U32, 1, 0), FAR,
                   [(-FAR, FAR - 1), (1, 2), (3, 4), (FAR - 1, -FAR)])
+STALE_MARKS = (MOST_U32, 192, 1 << 31, 64, 1 << 20, 0)
 
 
 def stale_reaches(length):
-    """Left, right and marks as a caller may hand them over: extremes, and marks with top bits set."""
+    """Left, right and marks as a caller may hand them over: extremes, and marks with bits set that no rig has."""
     left = [(LEAST_I32, MOST_I32, 0, 2_000_000_000)[k % 4] for k in range(length)]
     right = [(MOST_I32, -5, LEAST_I32, -2_000_000_000)[k % 4] for k in range(length)]
-    return left, right, [(255, 192, 128, 64, 63, 0)[k % 6] for k in range(length)]
+    return left, right, [STALE_MARKS[k % 6] for k in range(length)]
 
 
 def laid(job, extra=0):
@@ -44,21 +46,31 @@ def whole_walk(job, extra):
     """A placement and steps to the end and past it, each handed what the one before left; then the widest."""
     asked, runs = laid(job, extra)
     lines = [line_place(job.vehicle, ODD_RECORD, asked, runs)]
-    walk = place(job.vehicle, asked, runs)
+    walk, above = place(job.vehicle, asked, runs), own_bits(job.vehicle) + 1
     for k in range(asked - 1):
-        runs.marks[k] |= (0, 64, 128, 192)[k % 4]
+        runs.marks[k] |= (0, above, 1 << 31, MOST_U32 - above + 1)[k % 4]
         lines.append(line_step(walk, asked, runs))
         try:
             walk = step(walk, asked, runs)
         except Refused:
             break
-    return lines + [line_step(walk, asked, runs), line_widest(asked, runs.left, runs.right, runs.marks)]
+    return lines + [line_step(walk, asked, runs), line_widest(walk, asked, runs.left, runs.right, runs.marks)]
+
+
+def standing(vehicle, station=0):
+    """A sound record whose units all point due north."""
+    vectors = [(0, unit.wheelbase) for unit in vehicle.units[:vehicle.count]]
+    return Walk(vehicle, station, vectors + [ZERO] * (4 - vehicle.count))
 
 
 def midway(count, kind=RIGHT, steps=4):
     """A sound state some steps into a small walk: the record, the stations and the runs."""
-    asked, runs = laid(small_job(count, kind), 2)
-    walk = place(small_job(count, kind).vehicle, asked, runs)
+    return walked_on(small_job(count, kind), steps)
+
+
+def walked_on(job, steps):
+    asked, runs = laid(job, 2)
+    walk = place(job.vehicle, asked, runs)
     for _ in range(steps):
         walk = step(walk, asked, runs)
     return walk, asked, runs

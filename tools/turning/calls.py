@@ -1,5 +1,22 @@
-"""Lines of the call vectors: an operation's integers, ' = ', and the integers expected.
+"""Lines of the call vectors: an operation's integers, ' = ', and the integers expected, all apart by one space.
 
+  1 vehicle record stations 7 runs = refusal record 3 runs                placement; a record handed in is overwritten
+  2 record stations 7 runs = refusal unit record 3 runs                   step
+  3 record stations 3 runs = refusal station width left right             widest
+  4 job run = refusal bytes run                                           writer; the number of bytes written
+  5 job 4 runs = refusal stations 4 runs                                  laying a path
+  6 gx gy s r = refusal gx gy move_x move_y                               path turn
+  7 dx dy fx fy wheelbase = refusal dx dy                                 the single unit's turn
+  8 job lowest pitch number 7 runs = refusal listed 3 x {wheelbase width} 7 runs   list of settings
+
+  vehicle: form count 4 x {wheelbase hitch fold front_overhang rear_overhang half_width} overhang front_half_width rear_half_width
+  record:  vehicle station 4 x {dx dy}
+  job:     vehicle x y gx gy step count given, given x {length kind radius}
+  run:     its length, then its entries
+
+The form is 0 for short and 1 for long; all four units stand with all six fields in both. A kind is 0 straight, 1 left, 2 right;
+element places after those given are straights of length 0. Runs stand in the order xs, ys, gxs, gys, left, right, marks; three runs are the
+last three, marks have 32 bits. A refusal is 0 where there is none, and the figures it leaves without meaning are 0.
 Each line_* function takes the arguments by value, runs the operation on copies, and writes the line.
 """
 
@@ -12,8 +29,8 @@ PLACE, STEP, WIDEST, WRITE, LAY, PATH_TURN, UNIT_TURN, LIST = range(1, 9)
 
 
 def flat_vehicle(vehicle):
-    units = [value for unit in vehicle.units for value in unit]
-    return [vehicle.count] + units + [vehicle.overhang, vehicle.front, vehicle.rear]
+    units = [value for unit in vehicle.units for value in [*unit[:3], *unit.body]]
+    return [vehicle.form, vehicle.count] + units + [vehicle.overhang, vehicle.front, vehicle.rear]
 
 
 def flat_walk(walk):
@@ -59,12 +76,12 @@ def line_step(walk, asked, runs):
     return line(STEP, flat_walk(walk) + [asked] + flat_runs(runs), expected)
 
 
-def line_widest(asked, left, right, marks):
+def line_widest(walk, asked, left, right, marks):
     try:
-        expected = [0] + list(widest(asked, left, right, marks))
+        expected = [0] + list(widest(walk, asked, left, right, marks))
     except Refused as refused:
         expected = [refused.number, 0, 0, 0, 0]
-    return line(WIDEST, [asked] + flat_runs((left, right, marks)), expected)
+    return line(WIDEST, flat_walk(walk) + [asked] + flat_runs((left, right, marks)), expected)
 
 
 def line_write(job, run):

@@ -9,7 +9,7 @@ from .call_walks import (EMPTY_RECORD, LEAST_I32, MOST_I32, ODD_RECORD, laid, mi
                          with_unit, with_vector, with_vehicle)
 from .calls import line_lay, line_path_turn, line_place, line_step, line_write
 from .plane import N, dot, has_length, minus, nearest_vector, plus, right_normal, times
-from .record import LEFT, NO_UNIT, RIGHT, STRAIGHT, Unit, Vehicle
+from .record import LEFT, NO_UNIT, RIGHT, SHORT, STRAIGHT, Unit, Vehicle
 from .walk import CLEARED_LEFT, CLEARED_RIGHT, ZERO, Runs, Walk, points_of, turned
 
 NORTH, EAST, SOUTH, WEST = (0, N), (N, 0), (0, -N), (-N, 0)
@@ -25,7 +25,7 @@ def mirrored(g):
 
 
 def one_unit(wheelbase, widths):
-    return Vehicle(1, [Unit(wheelbase, 0, 0)] + [NO_UNIT] * 3, *widths)
+    return Vehicle(SHORT, 1, [Unit(wheelbase, 0, 0)] + [NO_UNIT] * 3, *widths)
 
 
 def cleared(n):
@@ -252,7 +252,7 @@ def far_before_folded():
 
 def hitched(hitch, move, second):
     """Two units, the first due north; its rear axle, and the hitch with it, goes aside; a station stands at its rear axle."""
-    vehicle = Vehicle(2, [Unit(6_000, hitch, 0), Unit(7_000, 0, -300)] + [NO_UNIT] * 2, 0, 1_500, 1_000)
+    vehicle = Vehicle(SHORT, 2, [Unit(6_000, hitch, 0), Unit(7_000, 0, -300)] + [NO_UNIT] * 2, 0, 1_500, 1_000)
     walk = Walk(vehicle, 0, [(0, 6_000), second, ZERO, ZERO])
     return line_step(walk, 3, runs_through([ZERO, move, (0, -12_000)], [NORTH] * 3))
 

@@ -1,4 +1,4 @@
-"""The job record: its fields, read from bytes and written to them."""
+"""The job record, short or long: its fields, read from bytes and written to them."""
 
 from collections import namedtuple
 
@@ -7,9 +7,13 @@ from .plane import N, has_length
 MOST_UNITS, MOST_ELEMENTS, MOST_STEPS = 4, 64, 2_000
 LARGEST = 4_294_967_295
 STRAIGHT, LEFT, RIGHT = 0, 1, 2
+SHORT, LONG = 0, 1
+LONG_FROM = 10  # a long job's first number is this plus its number of units
 
-Unit = namedtuple("Unit", "wheelbase hitch fold")
-Vehicle = namedtuple("Vehicle", "count units overhang front rear")  # units: 4 places
+Body = namedtuple("Body", "front rear half_width")  # front and rear overhang
+NO_BODY = Body(0, 0, 0)
+Unit = namedtuple("Unit", "wheelbase hitch fold body", defaults=[NO_BODY])
+Vehicle = namedtuple("Vehicle", "form count units overhang front rear")  # units: 4 places; front and rear half width
 Start = namedtuple("Start", "x y gx gy")
 Element = namedtuple("Element", "length kind radius")  # kind STRAIGHT, LEFT or RIGHT; radius 0 on a straight
 Job = namedtuple("Job", "vehicle start step count elements")  # elements: 64 places
@@ -42,6 +46,11 @@ def fold_allowed(fold, is_first):
 
 def overhang_allowed(overhang):
     return 0 <= overhang <= 50_000
+
+
+def old_overhang_allowed(overhang, form):
+    """The overhang that stands once: a long job has its front overhangs in the bodies, and here 0."""
+    return overhang == 0 if form == LONG else overhang_allowed(overhang)
 
 
 def half_width_allowed(width):
@@ -111,20 +120,31 @@ class Cursor:
         return signed_of(self.number(fault, lambda value: allowed(signed_of(value))))
 
 
-def read_unit(cursor, is_first, is_last):
+def read_body(cursor):
+    front = cursor.number(5, overhang_allowed)
+    rear = cursor.number(5, overhang_allowed)
+    return Body(front, rear, cursor.number(5, half_width_allowed))
+
+
+def read_unit(cursor, form, is_first, is_last):
     wheelbase = cursor.number(4, wheelbase_allowed)
     hitch = cursor.signed(4, lambda h: hitch_allowed(h, wheelbase, is_last))
     fold = cursor.signed(4, lambda f: fold_allowed(f, is_first))
-    return Unit(wheelbase, hitch, fold)
+    return Unit(wheelbase, hitch, fold, read_body(cursor) if form == LONG else NO_BODY)
+
+
+def form_and_count(first):
+    """What a record's first number says: 1 to 4 units of a short job, 11 to 14 for 1 to 4 of a long one."""
+    return (LONG, first - LONG_FROM) if first > LONG_FROM else (SHORT, first)
 
 
 def read_vehicle(cursor):
-    count = cursor.number(3, lambda n: 1 <= n <= MOST_UNITS)
-    units = [read_unit(cursor, u == 0, u == count - 1) for u in range(count)]
-    overhang = cursor.number(5, overhang_allowed)
+    form, count = form_and_count(cursor.number(3, lambda n: 1 <= form_and_count(n)[1] <= MOST_UNITS))
+    units = [read_unit(cursor, form, u == 0, u == count - 1) for u in range(count)]
+    overhang = cursor.number(5, lambda o: old_overhang_allowed(o, form))
     front = cursor.number(5, half_width_allowed)
     rear = cursor.number(5, half_width_allowed)
-    return Vehicle(count, units + [NO_UNIT] * (MOST_UNITS - count), overhang, front, rear)
+    return Vehicle(form, count, units + [NO_UNIT] * (MOST_UNITS - count), overhang, front, rear)
 
 
 def read_start(cursor):
@@ -163,15 +183,28 @@ def read_job(data):
 
 # The tests of a job by value, in the record's order.
 
+def body_allowed(body):
+    return overhang_allowed(body.front) and overhang_allowed(body.rear) and half_width_allowed(body.half_width)
+
+
+def unit_fault(unit, form, is_first, is_last):
+    """4, then 5 for the body, which is read in a long job only."""
+    hitch_is_good = hitch_allowed(unit.hitch, unit.wheelbase, is_last)
+    if not (wheelbase_allowed(unit.wheelbase) and hitch_is_good and fold_allowed(unit.fold, is_first)):
+        return 4
+    return 5 if form == LONG and not body_allowed(unit.body) else 0
+
+
 def vehicle_fault(vehicle):
+    """By value the number of units is 1 to 4 in a long job too; a unit is tested to its end before the next."""
     if not 1 <= vehicle.count <= MOST_UNITS:
         return 3
     for u, unit in enumerate(vehicle.units[:vehicle.count]):
-        hitch_is_good = hitch_allowed(unit.hitch, unit.wheelbase, u == vehicle.count - 1)
-        if not (wheelbase_allowed(unit.wheelbase) and hitch_is_good and fold_allowed(unit.fold, u == 0)):
-            return 4
+        fault = unit_fault(unit, vehicle.form, u == 0, u == vehicle.count - 1)
+        if fault:
+            return fault
     widths_are_good = half_width_allowed(vehicle.front) and half_width_allowed(vehicle.rear)
-    return 0 if overhang_allowed(vehicle.overhang) and widths_are_good else 5
+    return 0 if old_overhang_allowed(vehicle.overhang, vehicle.form) and widths_are_good else 5
 
 
 def start_fault(start):
@@ -216,12 +249,17 @@ def signed_radius(element):
     return -element.radius if element.kind == LEFT else element.radius
 
 
+def unit_fields(unit, form):
+    fields = [number_bytes(unit.wheelbase), signed_bytes(unit.hitch), signed_bytes(unit.fold)]
+    return fields + [number_bytes(value) for value in unit.body] if form == LONG else fields
+
+
 def job_fields(job):
     """The fields of any job by value as a list of byte strings, untested, so that wrong records can be made too."""
     v = job.vehicle
-    fields = [number_bytes(v.count)]
+    fields = [number_bytes(v.count + (LONG_FROM if v.form == LONG else 0))]
     for unit in v.units[:v.count]:
-        fields += [number_bytes(unit.wheelbase), signed_bytes(unit.hitch), signed_bytes(unit.fold)]
+        fields += unit_fields(unit, v.form)
     fields += [number_bytes(v.overhang), number_bytes(v.front), number_bytes(v.rear)]
     fields += [signed_bytes(value) for value in job.start]
     fields += [number_bytes(job.step), number_bytes(job.count)]

@@ -29,10 +29,11 @@ def with_last_wheelbase(vehicle, wheelbase):
 
 def outcome(vehicle, wheelbase, asked, runs):
     """The widest width of a walk from a new placement, or why it is not listed."""
-    if walked(with_last_wheelbase(vehicle, wheelbase), asked, runs):
+    walk, stopped = walked(with_last_wheelbase(vehicle, wheelbase), asked, runs)
+    if stopped:
         return STOPPED
     try:
-        return widest(asked, runs.left, runs.right, runs.marks)[1]
+        return widest(walk, asked, runs.left, runs.right, runs.marks)[1]
     except Refused:
         return INCOMPLETE
 

@@ -20,13 +20,13 @@ EQUAL = [
      (2_071, 8_625, 8_402), 18_187, 500, 6, Start(-1_832_490, -54_378_341, -N, 0)),
     ([(6_471, 6_400, 0), (6_383, 6_356, 500), (7_626, 7_469, -1_000), (6_140, 0, -500)], [(28_000, STRAIGHT, 0)], 5_600,
      (4_000, 4_231, 4_773), 5_600, 5_000, 3, Start(0, 100_000_000, 600_000, 800_000)),
-    # Widths a tick apart by rounding alone: 8068, 8068, 8067, 8067, then two incomplete.
+    # By rounding alone four ticks wider than twice the rear half width: 8072 four times, then two incomplete.
     ([(28_720, 11_566, 0), (27_812, -20_306, 500), (22_552, -17_649, -1_000), (31_472, 0, 0)],
      [(56_769, STRAIGHT, 0), (126_154, STRAIGHT, 0)], 18_923, (0, 2_479, 4_034), 33_853, 7_000, 6,
      Start(-89_646_034, 37_229_815, 600_000, 800_000)),
 ]
 
-# More than three to list, and the best of them is not the first.
+# More than three to list, and the best of them is not the first, save in three rows.
 NOT_THE_FIRST = [
     ([(13_769, 0, 0)], [(18_483, RIGHT, 50_000)], 6_161, (0, 1_754, 4_273), 7_723, 500, 7),
     ([(12_319, 0, 0)], [(15_285, RIGHT, 30_000)], 5_095, (3_180, 3_007, 6_793), 5_595, 1_000, 12),
@@ -35,12 +35,14 @@ NOT_THE_FIRST = [
     ([(60_432, 0, 0)], [(13_842, LEFT, 20_000), (27_684, RIGHT, 30_000)], 13_842, (0, 4_235, 1_618), 16_811, 1_000, 12),
     ([(11_049, 0, 0)], [(18_760, RIGHT, 30_000)], 4_690, (0, 3_216, 8_246), 5_484, 1_000, 12),
     ([(36_360, 0, 0)], [(22_182, STRAIGHT, 0), (29_576, LEFT, 50_000)], 11_091, (4_023, 7_384, 7_874), 16_498, 500, 12),
+    # The first is the best of these three, for a corner of the second unit reaches farthest on one side or on both.
     ([(22_004, 16_242, 0), (32_964, 32_501, -500), (24_196, 0, -1_000)], [(66_994, RIGHT, 50_000), (18_271, LEFT, 30_000)],
      18_271, (2_805, 2_389, 6_703), 21_836, 500, 4, Start(-43_961_597, -89_851_210, 600_000, 800_000)),
     ([(8_293, 8_172, 0), (8_808, -7_876, 500), (7_809, 0, -500)], [(42_984, LEFT, 20_000)], 7_164,
      (2_666, 2_079, 8_850), 7_308, 500, 7, Start(79_542_168, 83_532_915, 0, -N)),
     ([(7_567, 2_684, 0), (8_520, 6_152, -1_000), (8_148, 0, 500)], [(28_020, LEFT, 50_000)], 5_604,
      (0, 1_894, 8_223), 5_662, 500, 7, Start(94_272_808, -43_621_682, 280_000, -960_000)),
+    # And again the best is not the first.
     ([(8_689, 6_228, 0), (7_228, -1_818, 0), (8_434, 2_333, -1_000), (6_267, 0, 0)],
      [(32_700, STRAIGHT, 0), (5_450, LEFT, 20_000)], 5_450, (0, 3_690, 5_552), 5_124, 1_000, 12,
      Start(-84_905_100, -41_195_863, 280_000, -960_000)),
@@ -70,6 +72,7 @@ FEW = [
 ]
 
 # Refused walks between others, before them or after them; the runs then often hold a walk that was broken off.
+# In the fourth, fifth and seventh row the walks that are not refused have no complete station, for a corner never crosses: 30.
 STOPPED_AMONG = [
     ([(10_330, 0, 0)], [(32_448, STRAIGHT, 0)], 8_112, (2_499, 3_505, 7_416), 7_072, 500, 4),
     ([(60_000, -59_534, 0), (50_000, 0, -989)], [(105_523, LEFT, 20_000), (42_842, STRAIGHT, 0)], 20_000,
@@ -94,7 +97,7 @@ STOPPED_AMONG = [
      (1_513, 3_115, 8_606), 5_517, 1_000, 5, Start(32_539_416, -77_038_352, 0, -N)),
 ]
 
-# Refused walks that had a complete station by then, often a narrower one than any listed: they are not listed all the same.
+# Refused walks that had a complete station by then, save in the third row, often a narrower one than any listed: they are not listed all the same.
 STOPPED_LATE = [
     ([(30_000, 3_403, 0), (50_000, 0, -987)], [(60_000, STRAIGHT, 0), (116_714, LEFT, 25_000), (53_606, STRAIGHT, 0)], 20_000,
      (0, 9_000, 8_000), 20_376, 5_000, 6),

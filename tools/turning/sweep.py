@@ -8,7 +8,7 @@ MOST_BYTES = 1_024
 
 
 def walked(vehicle, asked, runs):
-    """A new placement and the steps to the last station; the line of a refused step, its number from 1, or None."""
+    """A new placement and the steps to the last station: the record, and the line of a refused step, its number from 1, or None."""
     walk = place(vehicle, asked, runs)
     for made in range(asked - 1):
         test_record(walk, asked)  # 26 was tested by the placement, and no step writes the path
@@ -16,21 +16,21 @@ def walked(vehicle, asked, runs):
         try:
             walk = move(walk, asked, runs)
         except RefusedAt as refusal:
-            return "refused %d unit %d step %d\n" % (refusal.number, refusal.unit, made + 1)
-    return None
+            return walk, "refused %d unit %d step %d\n" % (refusal.number, refusal.unit, made + 1)
+    return walk, None
 
 
 def walk_to_the_end(job):
-    """The runs after the last step made, and the line of a refused step or None."""
+    """The runs after the last step made, the record, and the line of a refused step or None."""
     asked = total_steps(job) + 1
     runs = Runs(*([0] * asked for _ in range(7)))
     lay(job, runs.xs, runs.ys, runs.gxs, runs.gys)
-    return runs, walked(job.vehicle, asked, runs)
+    return runs, *walked(job.vehicle, asked, runs)
 
 
-def widest_line(runs):
+def widest_line(walk, runs):
     try:
-        return "widest %d %d %d %d\n" % widest(len(runs.xs), runs.left, runs.right, runs.marks)
+        return "widest %d %d %d %d\n" % widest(walk, len(runs.xs), runs.left, runs.right, runs.marks)
     except Refused:
         return "widest none\n"
 
@@ -41,8 +41,8 @@ def sweep(data):
         job = read_job(data[:MOST_BYTES])
     except Refused as refusal:
         return "refused %d at %d\n" % (refusal.number, refusal.at)
-    runs, stopped = walk_to_the_end(job)
+    runs, walk, stopped = walk_to_the_end(job)
     if stopped:
         return stopped
     last = "front %d %d\n" % (runs.xs[-1], runs.ys[-1])
-    return "steps %d\n" % (len(runs.xs) - 1) + widest_line(runs) + last
+    return "steps %d\n" % (len(runs.xs) - 1) + widest_line(walk, runs) + last

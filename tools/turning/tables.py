@@ -2,7 +2,7 @@
 
 from .calls import (LAY, LIST, PATH_TURN, PLACE, STEP, UNIT_TURN, WIDEST, WRITE, line_lay, line_list, line_path_turn,
                     line_place, line_step, line_unit_turn, line_widest, line_write)
-from .record import NO_ELEMENT, Element, Job, Start, Unit, Vehicle
+from .record import NO_ELEMENT, Body, Element, Job, Start, Unit, Vehicle
 from .sweep import sweep
 from .walk import Runs, Walk
 
@@ -26,9 +26,12 @@ class Figures:
     def runs(self, n):
         return [self.take(self.one()) for _ in range(n)]
 
+    def unit(self):
+        return Unit(*self.take(3), Body(*self.take(3)))
+
     def vehicle(self):
-        count = self.one()
-        return Vehicle(count, [Unit(*self.take(3)) for _ in range(4)], *self.take(3))
+        form, count = self.take(2)
+        return Vehicle(form, count, [self.unit() for _ in range(4)], *self.take(3))
 
     def walk(self):
         vehicle = self.vehicle()
@@ -44,7 +47,7 @@ class Figures:
 READ = {
     PLACE: lambda f: line_place(f.vehicle(), f.walk(), f.one(), Runs(*f.runs(7))),
     STEP: lambda f: line_step(f.walk(), f.one(), Runs(*f.runs(7))),
-    WIDEST: lambda f: line_widest(f.one(), *f.runs(3)),
+    WIDEST: lambda f: line_widest(f.walk(), f.one(), *f.runs(3)),
     WRITE: lambda f: line_write(f.job(), *f.runs(1)),
     LAY: lambda f: line_lay(f.job(), f.runs(4)),
     PATH_TURN: lambda f: line_path_turn(tuple(f.take(2)), f.one(), f.one()),
@@ -59,6 +62,7 @@ def call_again(line):
 
 
 def job_line(data):
+    """A line of the job vectors: the bytes in hexadecimal, '-' for none, and what sweep prints, with '/' at the end of each line."""
     return "%s %s" % (data.hex() or "-", sweep(data).replace("\n", "/"))
 
 

@@ -2,14 +2,19 @@
 
 from collections import Counter
 
+from .call_bodies import BODY_GROUPS
+from .call_long_lists import LIST_GROUPS, long_list_kinds
+from .call_long_records import RECORD_GROUPS
 from .call_records import lays, writes
 from .call_settings import list_kinds, lists
 from .call_stations import walk_calls
 from .call_turns import path_turns, unit_turns
+from .call_widest import WIDEST_GROUPS
 from .chance import Chance
 from .convention_jobs import JOB_GROUPS, group_bytes
 from .conventions import CALL_GROUPS
 from .jobs import all_jobs
+from .long_jobs import LONG_JOB_GROUPS, long_walks
 from .tables import job_line
 from .worked import rigs_to_try
 
@@ -36,10 +41,25 @@ def call_groups():
     return [(name, calls()) for name, calls in CALL_GROUPS]
 
 
+def long_job_groups():
+    """The rows of long jobs, which stand after all others so that no older row moves."""
+    return [(name, [job_line(data) for data in jobs()]) for name, jobs in LONG_JOB_GROUPS]
+
+
+def long_call_groups():
+    """Likewise the calls that bodies, marks of 32 bits and the widest's record brought."""
+    return [(name, calls()) for name, calls in BODY_GROUPS + WIDEST_GROUPS + RECORD_GROUPS + LIST_GROUPS]
+
+
 def grouped(lines, groups):
     """The table: the rows of the groups come last, group after group, none twice."""
     rows = [row for _, group in groups for row in group]
     return [line for line in lines if line not in set(rows)] + list(dict.fromkeys(rows))
+
+
+def appended(table, groups):
+    """The table with the rows of these groups behind it, none twice."""
+    return list(dict.fromkeys(table + [row for _, group in groups for row in group]))
 
 
 def group_places(groups, table):
@@ -52,10 +72,11 @@ def group_places(groups, table):
 
 def tell_groups(job_folder, call_folder):
     """Prints the conventions that the tables pin, and where their rows stand."""
-    for folder, name, groups in ((job_folder, "jobs.txt", job_groups()), (call_folder, "calls.txt", call_groups())):
+    job_rows, call_rows = job_groups() + long_job_groups(), call_groups() + long_call_groups()
+    for folder, name, groups in ((job_folder, "jobs.txt", job_rows), (call_folder, "calls.txt", call_rows)):
         table = (folder / name).read_text(encoding="ascii").splitlines()
         for group, rows, first, last in group_places(groups, table):
-            print("%-9s lines %3d to %3d, %2d rows: %s" % (name, first, last, rows, group))
+            print("%-9s lines %4d to %4d, %2d rows: %s" % (name, first, last, rows, group))
 
 
 def job_kind(line):
@@ -79,9 +100,17 @@ def write_file(path, lines):
         out.write("".join(line + "\n" for line in lines))
 
 
-def write_vectors(job_folder, call_folder):
+def job_table():
     jobs = grouped([job_line(data) for data in all_jobs()], job_groups())
-    calls = grouped(call_lines(), call_groups()) + list_lines()
+    return appended(jobs + [job_line(data) for data in long_walks()], long_job_groups())
+
+
+def call_table():
+    return appended(grouped(call_lines(), call_groups()) + list_lines(), long_call_groups())
+
+
+def write_vectors(job_folder, call_folder):
+    jobs, calls = job_table(), call_table()
     write_file(job_folder / "rigs.txt", [job_line(data) for data in rigs_to_try()])
     write_file(job_folder / "jobs.txt", jobs)
     write_file(call_folder / "calls.txt", calls)
@@ -90,4 +119,4 @@ def write_vectors(job_folder, call_folder):
     for operation, name in OPERATIONS.items():
         numbers = [line.split(" = ")[1].split(" ")[0] for line in calls if line.startswith(operation + " ")]
         print("  %s %s, %d lines. %s" % (operation, name, len(numbers), told(numbers)))
-    print("  lists by what they show. %s" % told(list_kinds(Chance(8))))
+    print("  lists by what they show. %s" % told(list_kinds(Chance(8)) + long_list_kinds()))

@@ -1,13 +1,12 @@
-"""Walks: units drawn behind the path, the six points, stations crossed and the widest place."""
+"""Walks: units drawn behind the path, the points of the rig, stations crossed and the widest place."""
 
 from collections import namedtuple
 
 from .plane import N, dot, has_length, minus, nearest, nearest_vector, plus, right_normal, settle, times
-from .record import MOST_STEPS, MOST_UNITS, Refused, vehicle_fault, wheelbase_allowed
+from .record import LONG, MOST_STEPS, MOST_UNITS, Refused, vehicle_fault, wheelbase_allowed
 
 MOST_STATIONS = MOST_STEPS + 1
 CLEARED_LEFT, CLEARED_RIGHT = 2_000_000_000, -2_000_000_000
-ALL_POINTS = 0b111111
 ZERO = (0, 0)
 
 Walk = namedtuple("Walk", "vehicle station vectors")  # vectors: 4 places, unused ones zero
@@ -68,31 +67,55 @@ def turn_units(vehicle, vectors, old_front, new_front):
     return new + [ZERO] * (MOST_UNITS - len(new))
 
 
-def last_rear(vehicle, vectors, front):
-    """The rear axle of the last unit."""
+def fronts_of(vehicle, vectors, front):
+    """The front points of the units, the first of which stands at `front`."""
+    fronts = [front]
     for unit, d in zip(vehicle.units[:vehicle.count - 1], vectors):
-        front = hitch_of(unit, front, d)
-    return minus(front, vectors[vehicle.count - 1])
+        fronts.append(hitch_of(unit, fronts[-1], d))
+    return fronts
 
 
-# No. of the table -> (base on the last unit, along the overhang, sign of the side)
-POINTS = [(False, True, -1), (False, True, 1),
-          (False, False, -1), (False, False, 1),
-          (True, False, -1), (True, False, 1)]
+# The points.
+
+Shape = namedtuple("Shape", "front rear front_half_width rear_half_width")  # overhangs, and how wide the corners are
+
+
+def shape_of(vehicle, u):
+    """Where a unit's corners are: by its body in a long job, by the fields that stand once in a short one."""
+    if vehicle.form == LONG:
+        body = vehicle.units[u].body
+        return Shape(body.front, body.rear, body.half_width, body.half_width)
+    if u == 0:
+        return Shape(vehicle.overhang, 0, vehicle.front, vehicle.rear)
+    return Shape(0, 0, vehicle.rear, vehicle.rear)
+
+
+def pairs_of(vehicle):
+    """Pairs of points, left and right, by number: the unit, whether at its rear axle, how far ahead, how far aside."""
+    shapes, last = [shape_of(vehicle, u) for u in range(vehicle.count)], vehicle.count - 1
+    pairs = [(0, False, shapes[0].front, shapes[0].front_half_width), (0, False, 0, vehicle.front),
+             (last, True, 0, vehicle.rear), (0, True, -shapes[0].rear, shapes[0].rear_half_width)]
+    for u in range(1, vehicle.count):
+        pairs.append((u, False, shapes[u].front, shapes[u].front_half_width))
+        pairs.append((u, True, -shapes[u].rear, shapes[u].rear_half_width))
+    return pairs
 
 
 def points_of(vehicle, vectors, front):
-    """The six points of a rig whose first front point stands at `front`."""
-    rear = last_rear(vehicle, vectors, front)
-    points = []
-    for on_last, overhangs, sign in POINTS:
-        base, u = (rear, vehicle.count - 1) if on_last else (front, 0)
-        along = vehicle.overhang if overhangs else 0
-        side = sign * (vehicle.rear if on_last else vehicle.front)
+    """The 4n + 4 points of a rig of n units whose first front point stands at `front`."""
+    fronts, points = fronts_of(vehicle, vectors, front), []
+    for u, at_rear, along, side in pairs_of(vehicle):
         d = vectors[u]
-        offset = plus(times(along, d), times(side, right_normal(d)))
-        points.append(plus(base, nearest_vector(offset, vehicle.units[u].wheelbase)))
+        base = minus(fronts[u], d) if at_rear else fronts[u]
+        for sign in (-1, 1):
+            offset = plus(times(along, d), times(sign * side, right_normal(d)))
+            points.append(plus(base, nearest_vector(offset, vehicle.units[u].wheelbase)))
     return points
+
+
+def own_bits(vehicle):
+    """The bits of a mark that stand for the rig's points."""
+    return (1 << 4 * vehicle.count + 4) - 1
 
 
 # The stations.
@@ -110,12 +133,16 @@ def enter(runs, k, p, old, new):
     runs.marks[k] |= 1 << p
 
 
-def crossings(asked, runs, old, new):
+def crossings(entries, old, new):
     """The stations that a point going from old to new crosses: (A - P) . g goes from below 0 to 0 or more."""
     (ox, oy), (nx, ny) = old, new
+    return [k for k, gx, gy, level in entries if ox * gx + oy * gy - level < 0 <= nx * gx + ny * gy - level]
+
+
+def entries_of(asked, runs):
+    """The stations asked for: number, heading g and P . g."""
     entries = zip(range(asked), runs.xs, runs.ys, runs.gxs, runs.gys)
-    return [k for k, x, y, gx, gy in entries
-            if (ox - x) * gx + (oy - y) * gy < 0 <= (nx - x) * gx + (ny - y) * gy]
+    return [(k, gx, gy, x * gx + y * gy) for k, x, y, gx, gy in entries]
 
 
 def move(walk, asked, runs):
@@ -125,9 +152,10 @@ def move(walk, asked, runs):
     vectors = turn_units(vehicle, walk.vectors, old_front, new_front)
     olds = points_of(vehicle, walk.vectors, old_front)
     news = points_of(vehicle, vectors, new_front)
-    for p in range(len(POINTS)):
-        for crossed in crossings(asked, runs, olds[p], news[p]):
-            enter(runs, crossed, p, olds[p], news[p])
+    entries = entries_of(asked, runs)
+    for p, (old, new) in enumerate(zip(olds, news)):
+        for crossed in crossings(entries, old, new):
+            enter(runs, crossed, p, old, new)
     return Walk(vehicle, k + 1, vectors)
 
 
@@ -187,10 +215,12 @@ def step(walk, asked, runs):
     return move(walk, asked, runs)
 
 
-def widest(asked, left, right, marks):
+def widest(walk, asked, left, right, marks):
     """Station, width, left and right of the widest complete station, the lowest number among equals."""
     test_lent(asked, (left, right, marks))
-    complete = [k for k in range(asked) if marks[k] & ALL_POINTS == ALL_POINTS]
+    test_record(walk, asked)
+    own = own_bits(walk.vehicle)
+    complete = [k for k in range(asked) if marks[k] & own == own]
     if not complete:
         raise Refused(24)
     k = max(complete, key=lambda k: (right[k] - left[k], -k))

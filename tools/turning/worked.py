@@ -2,13 +2,19 @@
 
 from .path import lay, path_turn
 from .plane import nearest, settle
-from .record import (NO_ELEMENT, NO_UNIT, RIGHT, STRAIGHT, Element, Job, Refused, Start, Unit, Vehicle,
-                     job_fields, read_job, read_number, signed_of, total_steps, write_job)
+from .record import (LONG, NO_BODY, NO_ELEMENT, NO_UNIT, RIGHT, SHORT, STRAIGHT, Body, Element, Job, Refused, Start, Unit,
+                     Vehicle, job_fields, read_job, read_number, signed_of, total_steps, write_job)
 from .sweep import sweep
 from .walk import folds_too_far, unit_turn
 
 WORKED_STRAIGHT = bytes.fromhex("01D086030000904EE05DE05D00000080897A882701E8FB0300")
 WORKED_TEXT = "steps 13\nwidest 3 24000 -12000 12000\nfront 0 65000\n"
+# Document 002's samples of 84 and 115 steps; at their widest stations no corner reaches farther than the six points.
+SAMPLE_TEXTS = ["steps 84\nwidest 34 59020 -17648 41372\nfront 160081 -299969\n",
+                "steps 115\nwidest 59 68583 -17972 50611\nfront -139934 -200121\n"]
+# The worked straight as a long job: the body is 1,000 wider on each side, and its tail, 8,000 behind the axle, just comes to station 3.
+LONG_STRAIGHT = bytes.fromhex("0BD086030000904EC03EC86500E05DE05D00000080897A882701A8BA0400")
+LONG_TEXT = "steps 15\nwidest 3 26000 -13000 13000\nfront 0 73000\n"
 
 
 def refusal(function, *arguments):
@@ -20,11 +26,30 @@ def refusal(function, *arguments):
     return None
 
 
-def make_job(units, elements, step, start=Start(0, 0, 0, 1_000_000), widths=(0, 12_000, 12_000)):
-    """A job from its used units and elements."""
-    vehicle = Vehicle(len(units), [Unit(*u) for u in units] + [NO_UNIT] * (4 - len(units)), *widths)
+def make_vehicle(units, widths, bodies=None):
+    """A vehicle from its used units: a short one, or a long one with these bodies."""
+    shapes = [NO_BODY] * len(units) if bodies is None else [Body(*body) for body in bodies]
+    places = [Unit(*unit, body) for unit, body in zip(units, shapes)] + [NO_UNIT] * (4 - len(units))
+    return Vehicle(SHORT if bodies is None else LONG, len(units), places, *widths)
+
+
+def make_job(units, elements, step, start=Start(0, 0, 0, 1_000_000), widths=(0, 12_000, 12_000), bodies=None):
+    """A job from its used units and elements; bodies make it a long one."""
+    vehicle = make_vehicle(units, widths, bodies)
     places = [Element(*e) for e in elements] + [NO_ELEMENT] * (64 - len(elements))
     return Job(vehicle, start, step, len(elements), places)
+
+
+def dressed(job, bodies):
+    """A short job as a long one: its units get the bodies, and the old overhang goes."""
+    vehicle = job.vehicle
+    units = [unit._replace(body=Body(*body)) for unit, body in zip(vehicle.units[:vehicle.count], bodies)]
+    return job._replace(vehicle=vehicle._replace(form=LONG, units=units + [NO_UNIT] * (4 - len(units)), overhang=0))
+
+
+def long_twin(job):
+    """The long job whose corners are where a short one's are; its half widths must be equal."""
+    return dressed(job, [(job.vehicle.overhang, 0, job.vehicle.front)] + [(0, 0, job.vehicle.rear)] * 3)
 
 
 def job_bytes(job):
@@ -77,26 +102,45 @@ def rigs_to_try():
     return [WORKED_STRAIGHT] + straights + [job_bytes(sample_1988(length)) for length in (157_080, 314_160)]
 
 
+def written_back(data):
+    """The bytes of a job, read and written again."""
+    run = [0] * len(data)
+    write_job(read_job(data), run)
+    return bytes(run)
+
+
+def same_as_long(job):
+    return sweep(job_bytes(long_twin(job))) == sweep(job_bytes(job))
+
+
+def long_cases():
+    shorter = LONG_STRAIGHT.replace(bytes.fromhex("A8BA04"), bytes.fromhex("A7BA04"))  # 72,999 instead of 73,000
+    return [
+        ("a long straight", sweep(LONG_STRAIGHT) == LONG_TEXT),
+        ("a long straight written back", written_back(LONG_STRAIGHT) == LONG_STRAIGHT),
+        ("the tail a tick short", sweep(shorter) == "steps 15\nwidest none\nfront 0 72999\n"),
+        ("long twins print the same", all(map(same_as_long, [read_job(WORKED_STRAIGHT), sample_1988(157_080), sample_1988(314_160)]))),
+    ]
+
+
 def rig_cases():
     quarter, half = sample_1988(157_080), sample_1988(314_160)
-    same = [0] * len(WORKED_STRAIGHT)
-    write_job(read_job(WORKED_STRAIGHT), same)
     return [
         ("the worked straight", sweep(WORKED_STRAIGHT) == WORKED_TEXT),
-        ("the worked straight written back", bytes(same) == WORKED_STRAIGHT),
+        ("the worked straight written back", written_back(WORKED_STRAIGHT) == WORKED_STRAIGHT),
         ("wheelbase 5,000, step 5,000", straight(5_000, 5_000, 5_000) == "steps 1\nwidest none\nfront 0 5000\n"),
         ("wheelbase 5,000, step 5,001", straight(5_000, 5_001, 5_001) == "refused 22 unit 1 step 1\n"),
         ("2,000 steps", straight(5_000, 100, 200_000).startswith("steps 2000\n")),
         ("2,001 steps", straight(5_000, 100, 200_001) == "refused 9 at 17\n"),
         ("sample of 84 steps", total_steps(quarter) == 84 and ends_within(quarter, (160_000, -300_000), 200)),
         ("sample of 115 steps", total_steps(half) == 115 and ends_within(half, (-140_000, -200_000), 200)),
-        ("both samples walked", all(sweep(job_bytes(job)).startswith("steps ") for job in (quarter, half))),
+        ("both samples walked", [sweep(job_bytes(job)) for job in (quarter, half)] == SAMPLE_TEXTS),
     ]
 
 
 def check_worked():
     """Prints each case; answers whether all hold."""
-    cases = rule_cases() + rig_cases()
+    cases = rule_cases() + rig_cases() + long_cases()
     for name, holds in cases:
         print("%-34s %s" % (name, "passed" if holds else "FAILED"))
     return all(holds for _, holds in cases)
