@@ -140,10 +140,10 @@ fn report_all(counts: [Count; 9]) {
 }
 
 // Room for the whole table.
-fn empty_text() -> [u8; 1000000]
-    ensures { λ r. ⌜ 1000000 ≡ length r ⌝ }
+fn empty_text() -> [u8; 1500000]
+    ensures { λ r. ⌜ 1500000 ≡ length r ⌝ }
 {
-    [0; 1000000]
+    [0; 1500000]
 }
 
 fn main() {
@@ -156,7 +156,7 @@ fn main() {
     let mut text = empty_text();
     let n = io::read_full(file, &mut text);
     libc::close(file);
-    if n == 1000000 {
+    if n == 1500000 {
         io::write_all(STDOUT_FILENO, b"the table does not fit\n");
         return;
     }

@@ -29,15 +29,16 @@ fn expect_place(line: &[u8], c: Cursor, number: u8, p: Place) -> Cursor {
 pub fn widest(line: &[u8], c: Cursor) -> Cursor {
     let mut left = trial_calls::runs::empty_run();
     let mut right = trial_calls::runs::empty_run();
-    let mut marks = trial_calls::runs::empty_bytes();
-    let asked = trial_tools::reading::read_size(line, c);
+    let mut marks = trial_calls::runs::empty_marks();
+    let w = trial_tools::arguments::read_walk(line, c);
+    let asked = trial_tools::reading::read_size(line, w.next);
     let l = trial_calls::runs::read_run(line, asked.next, &mut left);
     let r = trial_calls::runs::read_run(line, l.next, &mut right);
-    let m = trial_calls::runs::read_bytes(line, r.next, &mut marks);
+    let m = trial_calls::runs::read_marks(line, r.next, &mut marks);
     let i = l.count;
     let j = r.count;
     let k = m.count;
-    let answer = reaches::widest(asked.value, &left[..i], &right[..j], &marks[..k]);
+    let answer = reaches::widest(w.walk, asked.value, &left[..i], &right[..j], &marks[..k]);
     let told = trial_tools::reading::equals_sign(line, m.next);
     match answer {
         WidestAnswer::At(p) => expect_place(line, told, 0, p),

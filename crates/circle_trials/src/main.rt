@@ -85,7 +85,7 @@ fn follow(
     gys: &[i32],
     left: &mut [i32],
     right: &mut [i32],
-    marks: &mut [u8],
+    marks: &mut [marks::Mark],
 ) -> Found {
     let placing = stations::place(
         v,
@@ -125,7 +125,7 @@ fn try_job(line: &[u8], t: Trial, j: Job) -> Found {
     let mut gys = [0i32; 600];
     let mut left = [0i32; 600];
     let mut right = [0i32; 600];
-    let mut marks = [0u8; 600];
+    let mut marks = [0u32; 600];
     let laid = path::lay(j, &mut xs, &mut ys, &mut gxs, &mut gys);
     let v = j.vehicle;
     let next = t.next;

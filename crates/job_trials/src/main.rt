@@ -171,7 +171,7 @@ fn report(name: &[u8], t: Tally) {
 }
 
 fn run_table(name: &[u8]) {
-    let mut table = [0u8; 131072];
+    let mut table = [0u8; 262144];
     let file = os::open_read(name);
     let count = io::read_full(file, &mut table);
     report(name, tallied(&table[..count]));

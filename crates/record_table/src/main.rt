@@ -143,7 +143,7 @@ fn try_case(s: &[u8], from: usize) -> Tried {
 }
 
 fn main() {
-    let mut table = io::buffer();
+    let mut table = io::large_buffer();
     let n = io::read_full(STDIN_FILENO, &mut table);
     let mut right: u64 = 0;
     let mut all: u64 = 0;

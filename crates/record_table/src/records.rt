@@ -31,8 +31,14 @@ const LENGTH: u32 = 13;
 
 const RADIUS: u32 = 14;
 
-// A record of so many units and elements whose field of a kind, at an index, holds a value; then the refusal's number, 0 for none, and the kind
-// of the field where it is placed.
+const FRONT_OVERHANG: u32 = 15;
+
+const REAR_OVERHANG: u32 = 16;
+
+const HALF_WIDTH: u32 = 17;
+
+// A record of so many units, 10 more in a long job, and of so many elements, whose field of a kind, at an index, holds a value; then the refusal's
+// number, 0 for none, and the kind of the field where it is placed.
 pub struct Case {
     pub units: u32,
     pub elements: u32,
@@ -111,9 +117,23 @@ fn put_field(t: Text, c: Case, kind: u32, index: u32, usual: u32) -> Text {
     put_number(out, field_of(kind, usual, false))
 }
 
+fn is_long(c: Case) -> bool {
+    10 < c.units
+}
+
+// A unit's body, which only a long job has.
+fn put_body(t: Text, c: Case, index: u32) -> Text {
+    if !is_long(c) {
+        return t;
+    }
+    let mut out = put_field(t, c, FRONT_OVERHANG, index, 9000);
+    out = put_field(out, c, REAR_OVERHANG, index, 8000);
+    put_field(out, c, HALF_WIDTH, index, 12500)
+}
+
 // The last unit has no hitch, the first no fold limit.
 fn put_units(t: Text, c: Case) -> Text {
-    let count = c.units;
+    let count = c.units % 10;
     let mut out = t;
     let mut i: u32 = 0;
     while i < count {
@@ -122,6 +142,7 @@ fn put_units(t: Text, c: Case) -> Text {
         out = put_field(out, c, WHEELBASE, i, 50000);
         out = put_field(out, c, HITCH, i, hitch);
         out = put_field(out, c, FOLD, i, fold);
+        out = put_body(out, c, i);
         i += 1;
     }
     out
@@ -146,9 +167,10 @@ pub fn record_of(c: Case) -> Text {
         at: 0,
         place: 0,
     };
+    let overhang: u32 = if is_long(c) { 0 } else { 10000 };
     let mut out = put_field(empty, c, UNITS, 0, c.units);
     out = put_units(out, c);
-    out = put_field(out, c, OVERHANG, 0, 10000);
+    out = put_field(out, c, OVERHANG, 0, overhang);
     out = put_field(out, c, FRONT, 0, 12000);
     out = put_field(out, c, REAR, 0, 12000);
     out = put_field(out, c, X, 0, 0);

@@ -1,19 +1,37 @@
 // What the entries answered, held number by number to what the line says.
+use job::Body;
+use job::Form;
 use job::Unit;
 use job::Vehicle;
 use plane::Vec2;
 use trial_tools::reading::Cursor;
 use walk::Walk;
 
+fn expect_body(line: &[u8], c: Cursor, b: Body) -> Cursor {
+    let front = trial_tools::reading::expect_size(line, c, b.front_overhang as usize);
+    let rear = trial_tools::reading::expect_size(line, front, b.rear_overhang as usize);
+    trial_tools::reading::expect_size(line, rear, b.half_width as usize)
+}
+
 fn expect_unit(line: &[u8], c: Cursor, u: Unit) -> Cursor {
     let wheelbase = trial_tools::reading::expect_size(line, c, u.wheelbase as usize);
     let hitch = trial_tools::reading::expect_wide(line, wheelbase, exact::wide_signed(u.hitch));
-    trial_tools::reading::expect_wide(line, hitch, exact::wide_signed(u.fold))
+    let fold = trial_tools::reading::expect_wide(line, hitch, exact::wide_signed(u.fold));
+    expect_body(line, fold, u.body)
+}
+
+fn number_of(f: Form) -> usize {
+    match f {
+        Form::Short => 0,
+        Form::Long => 1,
+    }
 }
 
 fn expect_vehicle(line: &[u8], c: Cursor, v: Vehicle) -> Cursor {
     let units = v.units;
-    let count = trial_tools::reading::expect_size(line, c, v.count);
+    let form = v.form;
+    let kind = trial_tools::reading::expect_size(line, c, number_of(form));
+    let count = trial_tools::reading::expect_size(line, kind, v.count);
     let first = expect_unit(line, count, units[0]);
     let second = expect_unit(line, first, units[1]);
     let third = expect_unit(line, second, units[2]);

@@ -68,7 +68,7 @@ fn call(
     gys: &[i32],
     left: &mut [i32],
     right: &mut [i32],
-    marks: &mut [u8],
+    marks: &mut [marks::Mark],
 ) -> Told {
     if placing {
         return told_placing(stations::place(v, w, asked, xs, ys, gxs, gys, left, right, marks));
@@ -90,13 +90,13 @@ fn made(
     gys: &[i32],
     left: &mut [i32],
     right: &mut [i32],
-    marks: &mut [u8],
+    marks: &mut [marks::Mark],
 ) -> Cursor {
     let told = call(placing, v, w, asked, xs, ys, gxs, gys, left, right, marks);
     let answer = expect_told(line, c, placing, told);
     let lefts = crate::runs::expect_run(line, answer, left);
     let rights = crate::runs::expect_run(line, lefts, right);
-    crate::runs::expect_bytes(line, rights, marks)
+    crate::runs::expect_marks(line, rights, marks)
 }
 
 // The three runs that are written, and the call.
@@ -114,10 +114,10 @@ fn with_reaches(
 ) -> Cursor {
     let mut left = crate::runs::empty_run();
     let mut right = crate::runs::empty_run();
-    let mut marks = crate::runs::empty_bytes();
+    let mut marks = crate::runs::empty_marks();
     let l = crate::runs::read_run(line, c, &mut left);
     let r = crate::runs::read_run(line, l.next, &mut right);
-    let m = crate::runs::read_bytes(line, r.next, &mut marks);
+    let m = crate::runs::read_marks(line, r.next, &mut marks);
     let i = l.count;
     let j = r.count;
     let k = m.count;

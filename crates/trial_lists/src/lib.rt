@@ -58,7 +58,7 @@ fn expect_runs(
     gys: &[i32],
     left: &[i32],
     right: &[i32],
-    marks: &[u8],
+    marks: &[marks::Mark],
 ) -> Cursor {
     let x = trial_calls::runs::expect_run(line, c, xs);
     let y = trial_calls::runs::expect_run(line, x, ys);
@@ -66,7 +66,7 @@ fn expect_runs(
     let gy = trial_calls::runs::expect_run(line, gx, gys);
     let lefts = trial_calls::runs::expect_run(line, gy, left);
     let rights = trial_calls::runs::expect_run(line, lefts, right);
-    trial_calls::runs::expect_bytes(line, rights, marks)
+    trial_calls::runs::expect_marks(line, rights, marks)
 }
 
 // The call on seven lent runs, and all that it answers.
@@ -81,7 +81,7 @@ fn made(
     gys: &mut [i32],
     left: &mut [i32],
     right: &mut [i32],
-    marks: &mut [u8],
+    marks: &mut [marks::Mark],
 ) -> Cursor {
     let listed = bogie::list_settings(
         j,
@@ -113,10 +113,10 @@ fn with_reaches(
 ) -> Cursor {
     let mut left = trial_calls::runs::empty_run();
     let mut right = trial_calls::runs::empty_run();
-    let mut marks = trial_calls::runs::empty_bytes();
+    let mut marks = trial_calls::runs::empty_marks();
     let l = trial_calls::runs::read_run(line, c, &mut left);
     let r = trial_calls::runs::read_run(line, l.next, &mut right);
-    let m = trial_calls::runs::read_bytes(line, r.next, &mut marks);
+    let m = trial_calls::runs::read_marks(line, r.next, &mut marks);
     let i = l.count;
     let j = r.count;
     let k = m.count;

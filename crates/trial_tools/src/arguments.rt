@@ -1,7 +1,9 @@
 // What is handed to the entries: vehicles, walk records and jobs, field by field, whatever they hold.
 use crate::reading::Cursor;
+use job::Body;
 use job::Curve;
 use job::Element;
+use job::Form;
 use job::Job;
 use job::Side;
 use job::Start;
@@ -10,8 +12,18 @@ use job::Vehicle;
 use plane::Vec2;
 use walk::Walk;
 
+pub struct BodyRead {
+    pub body: Body,
+    pub next: Cursor,
+}
+
 pub struct UnitRead {
     pub unit: Unit,
+    pub next: Cursor,
+}
+
+pub struct FormRead {
+    pub form: Form,
     pub next: Cursor,
 }
 
@@ -50,23 +62,59 @@ pub struct JobRead {
     pub next: Cursor,
 }
 
-fn read_unit(line: &[u8], c: Cursor) -> UnitRead {
-    let wheelbase = crate::reading::read_natural(line, c);
-    let hitch = crate::reading::read_signed(line, wheelbase.next);
-    let fold = crate::reading::read_signed(line, hitch.next);
-    let next = fold.next;
-    UnitRead {
-        unit: Unit {
-            wheelbase: wheelbase.value,
-            hitch: hitch.value,
-            fold: fold.value,
+fn read_body(line: &[u8], c: Cursor) -> BodyRead {
+    let front = crate::reading::read_natural(line, c);
+    let rear = crate::reading::read_natural(line, front.next);
+    let half = crate::reading::read_natural(line, rear.next);
+    let next = half.next;
+    BodyRead {
+        body: Body {
+            front_overhang: front.value,
+            rear_overhang: rear.value,
+            half_width: half.value,
         },
         next,
     }
 }
 
+fn read_unit(line: &[u8], c: Cursor) -> UnitRead {
+    let wheelbase = crate::reading::read_natural(line, c);
+    let hitch = crate::reading::read_signed(line, wheelbase.next);
+    let fold = crate::reading::read_signed(line, hitch.next);
+    let b = read_body(line, fold.next);
+    let body = b.body;
+    let next = b.next;
+    UnitRead {
+        unit: Unit {
+            wheelbase: wheelbase.value,
+            hitch: hitch.value,
+            fold: fold.value,
+            body,
+        },
+        next,
+    }
+}
+
+// 0 is a short job's vehicle, 1 a long one's.
+fn read_form(line: &[u8], c: Cursor) -> FormRead {
+    let kind = crate::reading::read_natural(line, c);
+    let next = crate::reading::tested(kind.next, kind.value <= 1);
+    if kind.value == 1 {
+        return FormRead {
+            form: Form::Long,
+            next,
+        };
+    }
+    FormRead {
+        form: Form::Short,
+        next,
+    }
+}
+
 pub fn read_vehicle(line: &[u8], c: Cursor) -> VehicleRead {
-    let count = crate::reading::read_size(line, c);
+    let kind = read_form(line, c);
+    let form = kind.form;
+    let count = crate::reading::read_size(line, kind.next);
     let first = read_unit(line, count.next);
     let second = read_unit(line, first.next);
     let third = read_unit(line, second.next);
@@ -82,6 +130,7 @@ pub fn read_vehicle(line: &[u8], c: Cursor) -> VehicleRead {
     let next = rear.next;
     VehicleRead {
         vehicle: Vehicle {
+            form,
             count: count.value,
             units,
             overhang: overhang.value,

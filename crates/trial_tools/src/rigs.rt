@@ -1,6 +1,8 @@
-// Sample rigs, and jobs for them.
+// Sample rigs, all of short jobs, and jobs for them.
+use job::Body;
 use job::Curve;
 use job::Element;
+use job::Form;
 use job::Job;
 use job::Side;
 use job::Start;
@@ -9,11 +11,18 @@ use job::Vehicle;
 use plane::Vec2;
 use walk::Walk;
 
+// A unit of a short job, whose body is not read.
 pub fn unit(wheelbase: u32, hitch: i32, fold: i32) -> Unit {
+    let body = Body {
+        front_overhang: 0,
+        rear_overhang: 0,
+        half_width: 0,
+    };
     Unit {
         wheelbase,
         hitch,
         fold,
+        body,
     }
 }
 
@@ -42,6 +51,7 @@ pub fn sample_vehicle(fold: i32) -> Vehicle {
     units[0] = unit(43000, 1800, 0);
     units[1] = unit(69300, 0, fold);
     Vehicle {
+        form: Form::Short,
         count: 2,
         units,
         overhang: 15000,

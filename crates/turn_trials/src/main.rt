@@ -79,7 +79,7 @@ fn measure_walk(
     gys: &[i32],
     left: &mut [i32],
     right: &mut [i32],
-    marks: &mut [u8],
+    marks: &mut [marks::Mark],
     text: &[u8],
     squares: &mut [i64; SQUARES],
 ) -> usize {
@@ -120,7 +120,7 @@ fn measure(
     gys: &mut [i32],
     left: &mut [i32],
     right: &mut [i32],
-    marks: &mut [u8],
+    marks: &mut [marks::Mark],
     text: &[u8],
     squares: &mut [i64; SQUARES],
 ) -> usize {
@@ -160,7 +160,7 @@ fn main() {
     let mut gys = [0i32; 148];
     let mut left = [0i32; 148];
     let mut right = [0i32; 148];
-    let mut marks = [0u8; 148];
+    let mut marks = [0u32; 148];
     let mut squares = [UNMEASURED; SQUARES];
     let rows = measure(
         full_turn(),

@@ -1,4 +1,4 @@
-// How far drawn places lie from printed ones: squared distances in ticks, six to a row, one for each point.
+// How far drawn places lie from printed ones: squared distances in ticks, six to a row, one for each of the points 0 to 5.
 
 // The rows of the table, and the squares that they give.
 pub const ROWS: usize = 148;

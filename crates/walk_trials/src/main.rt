@@ -1,4 +1,5 @@
 // Walks three rigs from the first station of their paths to the last, and checks how many steps they make and where they are widest.
+use job::Form;
 use job::Job;
 use job::Vehicle;
 use path::Laid;
@@ -8,6 +9,12 @@ use trial_tools::rigs;
 use walk::StepAnswer;
 use walk::Walk;
 
+// The steps that a walk made, and the record that it ends with.
+pub struct Walked {
+    pub made: usize,
+    pub walk: Walk,
+}
+
 fn is_made(a: StepAnswer) -> bool {
     match a {
         StepAnswer::Made => true,
@@ -16,8 +23,8 @@ fn is_made(a: StepAnswer) -> bool {
     }
 }
 
-// A rig is placed and stepped until a step is refused; the steps made.
-fn steps_made(
+// A rig is placed and stepped until a step is refused.
+fn walk_along(
     v: Vehicle,
     asked: usize,
     xs: &[i32],
@@ -26,8 +33,8 @@ fn steps_made(
     gys: &[i32],
     left: &mut [i32],
     right: &mut [i32],
-    marks: &mut [u8],
-) -> usize {
+    marks: &mut [marks::Mark],
+) -> Walked {
     let placing = stations::place(
         v,
         rigs::no_walk(v),
@@ -49,10 +56,10 @@ fn steps_made(
             w = advanced.walk;
             made += 1;
         } else {
-            return made;
+            return Walked { made, walk: w };
         }
     }
-    made
+    Walked { made, walk: w }
 }
 
 // Whether the widest place is the one looked for.
@@ -68,6 +75,25 @@ fn widest_is(answer: WidestAnswer, wanted: Place) -> bool {
     }
 }
 
+// Whether a rig walks so many steps along a path and is widest at the place looked for.
+fn walk_is(
+    v: Vehicle,
+    asked: usize,
+    steps: usize,
+    wanted: Place,
+    xs: &[i32],
+    ys: &[i32],
+    gxs: &[i32],
+    gys: &[i32],
+    left: &mut [i32],
+    right: &mut [i32],
+    marks: &mut [marks::Mark],
+) -> bool {
+    let w = walk_along(v, asked, xs, ys, gxs, gys, left, right, marks);
+    let answer = reaches::widest(w.walk, asked, left, right, marks);
+    (w.made == steps) & widest_is(answer, wanted)
+}
+
 // The job's path is laid and its rig walked along it; whether the steps and the widest place are those looked for.
 fn walks_so(
     j: Job,
@@ -79,15 +105,13 @@ fn walks_so(
     gys: &mut [i32],
     left: &mut [i32],
     right: &mut [i32],
-    marks: &mut [u8],
+    marks: &mut [marks::Mark],
 ) -> bool {
     let laid = path::lay(j, xs, ys, gxs, gys);
     match laid {
         Laid::Stations(n) => {
             let v = j.vehicle;
-            let made = steps_made(v, n, xs, ys, gxs, gys, left, right, marks);
-            let answer = reaches::widest(n, left, right, marks);
-            (made == steps) & widest_is(answer, wanted)
+            walk_is(v, n, steps, wanted, xs, ys, gxs, gys, left, right, marks)
         }
         Laid::Refused(_) => false,
     }
@@ -114,6 +138,7 @@ fn straight_job() -> Job {
     let mut elements = job::empty_elements();
     elements[0] = rigs::straight(65000);
     let vehicle = Vehicle {
+        form: Form::Short,
         count: 1,
         units,
         overhang: 10000,
@@ -144,6 +169,7 @@ fn longest_job() -> Job {
     let mut elements = job::empty_elements();
     elements[0] = rigs::right_turn(40000000, 1000000);
     let vehicle = Vehicle {
+        form: Form::Short,
         count: 4,
         units,
         overhang: 10000,
@@ -166,7 +192,7 @@ fn main() {
     let mut gys = [0i32; 2001];
     let mut left = [0i32; 2001];
     let mut right = [0i32; 2001];
-    let mut marks = [0u8; 2001];
+    let mut marks = [0u32; 2001];
     let straight = Place {
         station: 3,
         width: 24000,

@@ -12,8 +12,8 @@ Inv-loop table n right₀ all₀ at₀ t7 t8 right all at = (right ≤ all) × (
 abbrev μ-loop : tie.MeasureT-loop
 μ-loop table n right₀ all₀ at₀ t7 t8 right all at = 200 - all
 
-buffer-requires : tie.Need-buffer-requires Inv-loop μ-loop
-buffer-requires c κs = search needs
+large-buffer-requires : tie.Need-large-buffer-requires Inv-loop μ-loop
+large-buffer-requires c κs = search needs
 
 slice-aggregate-read-full : tie.Need-slice-aggregate-read-full Inv-loop μ-loop
 slice-aggregate-read-full c = search needs
@@ -69,7 +69,7 @@ main-spec =
     (tie.spec
     Inv-loop
     μ-loop
-    buffer-requires
+    large-buffer-requires
     slice-aggregate-read-full
     read-full-requires
     loop-holds

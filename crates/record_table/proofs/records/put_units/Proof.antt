@@ -26,6 +26,9 @@ put-field-requires-2 c κs = search needs
 put-field-requires-3 : tie.Need-put-field-requires-3 Inv-loop μ-loop
 put-field-requires-3 c κs = search needs
 
+put-body-requires : tie.Need-put-body-requires Inv-loop μ-loop
+put-body-requires c κs = search needs
+
 add-i : tie.Need-add-i Inv-loop μ-loop
 add-i c = search needs
 
@@ -49,6 +52,7 @@ put-units-spec =
     put-field-requires
     put-field-requires-2
     put-field-requires-3
+    put-body-requires
     add-i
     loop-less
     loop-again

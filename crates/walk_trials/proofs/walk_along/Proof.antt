@@ -1,11 +1,11 @@
--- `walk_trials::steps_made` is safe and ends.
+-- `walk_trials::walk_along` is safe and ends.
 use Prim.Native.Nat.{_-_, _≤_}
 use mathlib.Core.Path.{_≡_}
 use native.Mathlib.Omega.{arith}
 use borrow.Author.Needs.{needs}
 use lib.ListN.{length}
-use Rattle.walk_trials.proofs.steps_made.Statement.{statement}
-use Rattle.walk_trials.proofs.steps_made.Tie as tie
+use Rattle.walk_trials.proofs.walk_along.Statement.{statement}
+use Rattle.walk_trials.proofs.walk_along.Tie as tie
 
 abbrev Inv-loop : tie.InvT-loop
 Inv-loop asked xs ys gxs gys left₀ right₀ marks₀ w₀ made₀ left right marks w made = (made ≤ asked) × (length left ≡ length left₀) × (length right ≡ length right₀) × (length marks ≡ length marks₀)
@@ -64,8 +64,8 @@ same-length-6 c = search needs
 returns-2 : tie.Need-returns-2 Inv-loop μ-loop
 returns-2 c = search needs
 
-pub steps-made-spec : {M : Type 1} → statement M
-steps-made-spec =
+pub walk-along-spec : {M : Type 1} → statement M
+walk-along-spec =
     tie.close
     (tie.spec
     Inv-loop
