@@ -1,4 +1,4 @@
-//! Seeded jobs for comparisons: sound ones, mostly short, and ones harmed in all sorts of ways.
+//! Seeded jobs for comparisons, short and long: sound ones, mostly of few steps, and ones harmed in all sorts of ways.
 
 /// xorshift64*: a seed other than 0 gives the same choices for ever.
 pub struct Chance(u64);
@@ -82,21 +82,47 @@ pub fn heading(chance: &mut Chance) -> (i64, i64) {
     (gx, if chance.one_in(2) { gy } else { -gy })
 }
 
+/// Values that a first number may be harmed to, those of the other form among them.
+const FIRST_ENDS: [i64; 10] = [0, 1, 4, 5, 10, 11, 12, 13, 14, 15];
+
+/// The body of a long job's unit, now and then at the ends of its ranges.
+fn body_fields(chance: &mut Chance, wild: bool) -> [Field; 3] {
+    let most = if wild { 50_000 } else { 20_000 };
+    let mut measure = |low: i64, most: i64, high: i64| {
+        let value = chance.between(low, most);
+        unsigned(if chance.one_in(6) { chance.pick(&[low, high]) } else { value }, low, high)
+    };
+    [measure(0, most, 50_000), measure(0, most, 50_000), measure(1_000, 20_000, 20_000)]
+}
+
 /// Measures that mostly go well, or, for a wild job, all over their ranges.
+fn unit_fields(chance: &mut Chance, wild: bool, first: bool, last: bool) -> [Field; 3] {
+    let longest = if wild { 200_000 } else { chance.pick(&[20_000, 40_000, 120_000]) };
+    let wheelbase = chance.between(if wild { 5_000 } else { 9_000 }, longest);
+    let reach = if wild { wheelbase } else { wheelbase / 5 };
+    let hitch = if last { 0 } else { chance.between(-reach, reach) };
+    let fold = if wild { chance.between(-1_000, 990) } else { chance.pick(&[-1_000, -500, 0, 300, 800]) };
+    [
+        unsigned(wheelbase, 5_000, 200_000),
+        signed(hitch, &[wheelbase, -wheelbase, wheelbase + 1, -wheelbase - 1, 1, -1]),
+        signed(if first { 0 } else { fold }, &[-1_001, -1_000, 990, 991, 1, -1]),
+    ]
+}
+
+/// One job in two is long: it has bodies, and no front overhang beside them.
 fn vehicle_fields(chance: &mut Chance, wild: bool) -> Vec<Field> {
     let count = chance.between(1, 4);
-    let mut fields = vec![unsigned(count, 1, 4)];
+    let long = chance.one_in(2);
+    let first_number = if long { 10 + count } else { count };
+    let mut fields = vec![Field { value: first_number, signed: false, ends: FIRST_ENDS.to_vec() }];
     for u in 1..=count {
-        let longest = if wild { 200_000 } else { chance.pick(&[20_000, 40_000, 120_000]) };
-        let wheelbase = chance.between(if wild { 5_000 } else { 9_000 }, longest);
-        let reach = if wild { wheelbase } else { wheelbase / 5 };
-        let hitch = if u == count { 0 } else { chance.between(-reach, reach) };
-        let fold = if wild { chance.between(-1_000, 990) } else { chance.pick(&[-1_000, -500, 0, 300, 800]) };
-        fields.push(unsigned(wheelbase, 5_000, 200_000));
-        fields.push(signed(hitch, &[wheelbase, -wheelbase, wheelbase + 1, -wheelbase - 1, 1, -1]));
-        fields.push(signed(if u == 1 { 0 } else { fold }, &[-1_001, -1_000, 990, 991, 1, -1]));
+        fields.extend(unit_fields(chance, wild, u == 1, u == count));
+        if long {
+            fields.extend(body_fields(chance, wild));
+        }
     }
-    fields.push(unsigned(chance.between(0, 30_000), 0, 50_000));
+    let overhang = chance.between(0, 30_000);
+    fields.push(if long { unsigned(0, 0, 0) } else { unsigned(overhang, 0, 50_000) });
     fields.push(unsigned(chance.between(1_000, 20_000), 1_000, 20_000));
     fields.push(unsigned(chance.between(1_000, 20_000), 1_000, 20_000));
     fields
@@ -195,7 +221,7 @@ fn noise(chance: &mut Chance) -> Vec<u8> {
     let length = chance.between(0, most);
     let mut bytes: Vec<u8> = (0..length).map(|_| chance.word() as u8).collect();
     if let Some(first) = bytes.first_mut() {
-        *first &= 0x07;
+        *first &= 0x0f;
     }
     bytes
 }
@@ -223,14 +249,35 @@ pub fn some_job(chance: &mut Chance) -> Vec<u8> {
     }
 }
 
-/// The heaviest walk that a job can ask for: four units, 2,000 steps, bends both ways.
-pub fn heaviest() -> Vec<u8> {
-    let mut fields = vec![4, 40_000, 2 * 3_000, 0, 60_000, 2 * 2_000 - 1, 999];
-    fields.extend([30_000, 2 * 1_000, 1_999, 80_000, 0, 999]);
-    fields.extend([11_000, 12_000, 12_500, 0, 0, 0, 2 * 1_000_000, 1_500, 64]);
+/// The four units of the heaviest walks: wheelbase, hitch and fold limit.
+const HEAVY_UNITS: [[u64; 3]; 4] =
+    [[40_000, 2 * 3_000, 0], [60_000, 2 * 2_000 - 1, 999], [30_000, 2 * 1_000, 1_999], [80_000, 0, 999]];
+
+/// The record of a vehicle with 2,000 steps and bends both ways after it.
+fn heavy_job(mut fields: Vec<u64>) -> Vec<u8> {
+    fields.extend([0, 0, 0, 2 * 1_000_000, 1_500, 64]);
     for e in 0..64 {
         let steps = if e < 16 { 32 } else { 31 };
         fields.extend([steps * 1_500, [0, 2 * 150_000, 0, 2 * 150_000 - 1][e % 4]]);
     }
     fields.into_iter().flat_map(encode).collect()
+}
+
+/// The heaviest walk that a short job can ask for: four units, 2,000 steps, bends both ways.
+pub fn heaviest() -> Vec<u8> {
+    let mut fields = vec![4];
+    fields.extend(HEAVY_UNITS.concat());
+    fields.extend([11_000, 12_000, 12_500]);
+    heavy_job(fields)
+}
+
+/// The same walk of a long job, each unit with the greatest body.
+pub fn heaviest_long() -> Vec<u8> {
+    let mut fields = vec![14];
+    for unit in HEAVY_UNITS {
+        fields.extend(unit);
+        fields.extend([50_000, 50_000, 20_000]);
+    }
+    fields.extend([0, 12_000, 12_500]);
+    heavy_job(fields)
 }

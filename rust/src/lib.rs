@@ -3,6 +3,7 @@
 
 pub mod jobs;
 pub mod lists;
+mod plane;
 #[cfg(feature = "product")]
 pub mod product;
 pub mod record;

@@ -25,10 +25,24 @@ fn record(fields: &[i64]) -> Vec<u8> {
     fields.iter().flat_map(|field| encode(*field as u64)).collect()
 }
 
+/// The fields of a vehicle of these units, in a short job or, with bodies, in a long one.
+fn vehicle(chance: &mut Chance, units: &[[i64; 3]]) -> Vec<i64> {
+    let long = chance.one_in(2);
+    let mut fields = vec![if long { 10 } else { 0 } + units.len() as i64];
+    for unit in units {
+        fields.extend(unit);
+        if long {
+            fields.extend([chance.between(0, 30_000), chance.between(0, 30_000), chance.between(1_000, 20_000)]);
+        }
+    }
+    let overhang = chance.between(0, 30_000);
+    fields.extend([if long { 0 } else { overhang }, chance.between(1_000, 20_000), chance.between(1_000, 20_000)]);
+    fields
+}
+
 /// A trailer on a tractor of four metres, led by a straight into a tight bend and out again.
 fn bend_job(chance: &mut Chance, hitch: i64, fold: i64) -> Vec<u8> {
-    let mut fields = vec![2, 40_000, folded(hitch), 0, 60_000, 0, folded(fold)];
-    fields.extend([chance.between(0, 30_000), chance.between(1_000, 20_000), chance.between(1_000, 20_000)]);
+    let mut fields = vehicle(chance, &[[40_000, folded(hitch), 0], [60_000, 0, folded(fold)]]);
     fields.extend([0, 0, 0, 2_000_000, chance.between(2_500, 5_000), 3]);
     fields.extend([chance.between(30_000, 220_000), 0]);
     fields.extend([chance.between(78_030, 84_030), folded(chance.pick(&[-20_000, 20_000]))]);
@@ -50,8 +64,7 @@ fn ends_stop(chance: &mut Chance) -> Vec<u8> {
 
 /// One unit on a straight, where all widths are equal; now and then a wrong step or a byte left over.
 fn straight_job(chance: &mut Chance) -> Vec<u8> {
-    let mut fields = vec![1, 50_000, 0, 0];
-    fields.extend([chance.between(0, 30_000), chance.between(1_000, 20_000), chance.between(1_000, 20_000)]);
+    let mut fields = vehicle(chance, &[[50_000, 0, 0]]);
     let step = chance.between(2_500, 9_000);
     let step = if chance.one_in(10) { chance.pick(&[99, 20_001]) } else { step };
     fields.extend([0, 0, 0, 2_000_000, step, 1, chance.between(5_000, 200_000), 0]);

@@ -3,15 +3,29 @@
 pub const NOMINAL: i64 = 1_000_000;
 pub const MOST_STEPS: u64 = 2_000;
 
+/// How far a unit's corners stand ahead of its front point, behind its rear axle and to either side.
+#[derive(Clone, Copy, Debug)]
+pub struct Body {
+    pub front_overhang: i64,
+    pub rear_overhang: i64,
+    pub half_width: i64,
+}
+
+/// What a unit of a short job holds, where no body is read.
+const NO_BODY: Body = Body { front_overhang: 0, rear_overhang: 0, half_width: 0 };
+
 #[derive(Clone, Copy, Debug)]
 pub struct Unit {
     pub wheelbase: i64,
     pub hitch: i64,
     pub fold: i64,
+    pub body: Body,
 }
 
+/// Only a long job's units have bodies of their own.
 #[derive(Clone, Debug)]
 pub struct Vehicle {
+    pub long: bool,
     pub units: Vec<Unit>,
     pub overhang: i64,
     pub front_half_width: i64,
@@ -56,6 +70,10 @@ pub fn wheelbase_allowed(wheelbase: i64) -> bool {
 
 pub fn radius_allowed(radius: i64) -> bool {
     radius == 0 || (20_000..=1_000_000).contains(&radius.abs())
+}
+
+fn overhang_allowed(overhang: i64) -> bool {
+    overhang <= 50_000
 }
 
 fn half_width_allowed(width: i64) -> bool {
@@ -106,20 +124,31 @@ impl Fields<'_> {
     }
 }
 
+fn read_body(fields: &mut Fields) -> Result<Body, Refusal> {
+    let front_overhang = fields.unsigned(5, overhang_allowed)?;
+    let rear_overhang = fields.unsigned(5, overhang_allowed)?;
+    let half_width = fields.unsigned(5, half_width_allowed)?;
+    Ok(Body { front_overhang, rear_overhang, half_width })
+}
+
+/// A first number of 11 to 14 stands for 1 to 4 units with a body each, and leaves no other front overhang.
 fn read_vehicle(fields: &mut Fields) -> Result<Vehicle, Refusal> {
-    let count = fields.unsigned(3, |n| (1..=4).contains(&n))?;
+    let first = fields.unsigned(3, |n| (1..=4).contains(&n) || (11..=14).contains(&n))?;
+    let long = first > 10;
+    let count = if long { first - 10 } else { first };
     let mut units = Vec::new();
     for u in 1..=count {
         let wheelbase = fields.unsigned(4, wheelbase_allowed)?;
         let longest_hitch = if u == count { 0 } else { wheelbase };
         let hitch = fields.signed(4, |h| h.abs() <= longest_hitch)?;
         let fold = fields.signed(4, |f| if u == 1 { f == 0 } else { (-1_000..=990).contains(&f) })?;
-        units.push(Unit { wheelbase, hitch, fold });
+        let body = if long { read_body(fields)? } else { NO_BODY };
+        units.push(Unit { wheelbase, hitch, fold, body });
     }
-    let overhang = fields.unsigned(5, |o| o <= 50_000)?;
+    let overhang = fields.unsigned(5, |o| if long { o == 0 } else { overhang_allowed(o) })?;
     let front_half_width = fields.unsigned(5, half_width_allowed)?;
     let rear_half_width = fields.unsigned(5, half_width_allowed)?;
-    Ok(Vehicle { units, overhang, front_half_width, rear_half_width })
+    Ok(Vehicle { long, units, overhang, front_half_width, rear_half_width })
 }
 
 fn read_elements(fields: &mut Fields, step: i64) -> Result<Vec<Element>, Refusal> {

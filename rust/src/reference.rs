@@ -1,66 +1,10 @@
 //! The method in plain Rust, as the paper tells it: path, units, points, stations and the widest place.
 
+use crate::plane::{nearest, Vector};
 use crate::record::{has_length, radius_allowed, read_job, square_of, wheelbase_allowed};
-use crate::record::{Job, Unit, Vehicle, NOMINAL};
+use crate::record::{Body, Job, Unit, Vehicle, NOMINAL};
 use crate::runs::Runs;
 pub use crate::Swept;
-use std::ops::{Add, Mul, Sub};
-
-#[derive(Clone, Copy, Debug, PartialEq, Eq)]
-struct Vector {
-    x: i64,
-    y: i64,
-}
-
-impl Add for Vector {
-    type Output = Vector;
-    fn add(self, other: Vector) -> Vector {
-        Vector { x: self.x + other.x, y: self.y + other.y }
-    }
-}
-
-impl Sub for Vector {
-    type Output = Vector;
-    fn sub(self, other: Vector) -> Vector {
-        Vector { x: self.x - other.x, y: self.y - other.y }
-    }
-}
-
-impl Mul<i64> for Vector {
-    type Output = Vector;
-    fn mul(self, by: i64) -> Vector {
-        Vector { x: self.x * by, y: self.y * by }
-    }
-}
-
-impl Vector {
-    fn dot(self, other: Vector) -> i64 {
-        self.x * other.x + self.y * other.y
-    }
-
-    fn right_normal(self) -> Vector {
-        Vector { x: self.y, y: -self.x }
-    }
-
-    fn nearest(self, divisor: i64) -> Vector {
-        Vector { x: nearest(self.x, divisor), y: nearest(self.y, divisor) }
-    }
-
-    fn settle(self, length: i64) -> Vector {
-        let square = length * length;
-        (self * (3 * square - self.dot(self))).nearest(2 * square)
-    }
-}
-
-/// The nearest whole number to a quotient by a positive divisor, halves away from zero.
-fn nearest(dividend: i64, divisor: i64) -> i64 {
-    let (quotient, rest) = (dividend / divisor, dividend % divisor);
-    if 2 * rest.abs() >= divisor {
-        quotient + dividend.signum()
-    } else {
-        quotient
-    }
-}
 
 #[derive(Clone, Copy)]
 pub(crate) struct Station {
@@ -132,25 +76,54 @@ fn turn_units(vehicle: &Vehicle, d: &[Vector], from: Vector, to: Vector) -> Resu
     Ok(new)
 }
 
-fn points(vehicle: &Vehicle, d: &[Vector], front: Vector) -> [Vector; 6] {
-    let last = vehicle.units.len() - 1;
-    let mut last_front = front;
-    for (unit, vector) in vehicle.units[..last].iter().zip(d) {
-        last_front = hitch(*unit, last_front, *vector);
+/// The body whose corners count: a short job's units have overhangs 0 and the rear half width.
+fn body_of(vehicle: &Vehicle, u: usize) -> Body {
+    if vehicle.long {
+        vehicle.units[u].body
+    } else {
+        Body { front_overhang: 0, rear_overhang: 0, half_width: vehicle.rear_half_width }
     }
-    let rear = last_front - d[last];
-    let point = |base: Vector, u: usize, along: i64, side: i64| {
-        base + (d[u] * along + d[u].right_normal() * side).nearest(vehicle.units[u].wheelbase)
+}
+
+/// Overhang and half width of points 0 and 1: the first body's, or the old ones of a short job.
+fn first_front(vehicle: &Vehicle) -> (i64, i64) {
+    if vehicle.long {
+        let body = vehicle.units[0].body;
+        (body.front_overhang, body.half_width)
+    } else {
+        (vehicle.overhang, vehicle.front_half_width)
+    }
+}
+
+/// The front point of each unit, the first one's standing at `front`.
+fn fronts(vehicle: &Vehicle, d: &[Vector], front: Vector) -> Vec<Vector> {
+    let mut fronts = vec![front];
+    for u in 1..vehicle.units.len() {
+        fronts.push(hitch(vehicle.units[u - 1], fronts[u - 1], d[u - 1]));
+    }
+    fronts
+}
+
+/// The rig's points by number, a left and a right one at a time.
+fn points(vehicle: &Vehicle, d: &[Vector], front: Vector) -> Vec<Vector> {
+    let fronts = fronts(vehicle, d, front);
+    let pair = |base: Vector, u: usize, along: i64, side: i64| {
+        [-side, side].map(|side| base + (d[u] * along + d[u].right_normal() * side).nearest(vehicle.units[u].wheelbase))
     };
-    let (ahead, wide, behind) = (vehicle.overhang, vehicle.front_half_width, vehicle.rear_half_width);
-    [
-        point(front, 0, ahead, -wide),
-        point(front, 0, ahead, wide),
-        point(front, 0, 0, -wide),
-        point(front, 0, 0, wide),
-        point(rear, last, 0, -behind),
-        point(rear, last, 0, behind),
-    ]
+    let last = vehicle.units.len() - 1;
+    let (ahead, wide) = first_front(vehicle);
+    let mut all = Vec::with_capacity(4 * vehicle.units.len() + 4);
+    all.extend(pair(front, 0, ahead, wide));
+    all.extend(pair(front, 0, 0, vehicle.front_half_width));
+    all.extend(pair(fronts[last] - d[last], last, 0, vehicle.rear_half_width));
+    for (u, front) in fronts.iter().enumerate() {
+        let body = body_of(vehicle, u);
+        if u > 0 {
+            all.extend(pair(*front, u, body.front_overhang, body.half_width));
+        }
+        all.extend(pair(*front - d[u], u, -body.rear_overhang, body.half_width));
+    }
+    all
 }
 
 /// What a station has kept of the points that crossed it.
@@ -158,7 +131,7 @@ fn points(vehicle: &Vehicle, d: &[Vector], front: Vector) -> [Vector; 6] {
 pub(crate) struct Cell {
     left: i64,
     right: i64,
-    mark: u8,
+    mark: u32,
 }
 
 const CLEARED: Cell = Cell { left: 2_000_000_000, right: -2_000_000_000, mark: 0 };
@@ -170,12 +143,12 @@ impl Cell {
     }
 }
 
-/// Enters the moves of the six points at every station that they cross.
-fn cross(path: &[Station], cells: &mut [Cell], old: &[Vector; 6], new: &[Vector; 6]) {
+/// Enters the moves of all points at every station that they cross.
+fn cross(path: &[Station], cells: &mut [Cell], old: &[Vector], new: &[Vector]) {
     for (station, cell) in path.iter().zip(cells) {
-        for p in 0..6 {
-            let before = old[p] - station.position;
-            let after = new[p] - station.position;
+        for (p, (old, new)) in old.iter().zip(new).enumerate() {
+            let before = *old - station.position;
+            let after = *new - station.position;
             if before.dot(station.heading) < 0 && after.dot(station.heading) >= 0 {
                 let normal = station.heading.right_normal();
                 cell.enter(nearest(before.dot(normal), NOMINAL));
@@ -186,12 +159,14 @@ fn cross(path: &[Station], cells: &mut [Cell], old: &[Vector; 6], new: &[Vector;
     }
 }
 
-fn widest(cells: &[Cell]) -> Option<(u32, i64, i64, i64)> {
+/// The widest of the stations that all points of a rig of so many units have crossed.
+fn widest(cells: &[Cell], units: usize) -> Option<(u32, i64, i64, i64)> {
+    let all = (1 << (4 * units + 4)) - 1;
     let mut best: Option<(u32, i64, i64, i64)> = None;
     for (k, cell) in cells.iter().enumerate() {
         let width = cell.right - cell.left;
         let wider = best.is_none_or(|(_, most, _, _)| width > most);
-        if cell.mark & 63 == 63 && wider {
+        if cell.mark & all == all && wider {
             best = Some((k as u32, width, cell.left, cell.right));
         }
     }
@@ -216,7 +191,7 @@ pub(crate) fn walked(job: &Job, path: &[Station]) -> (Swept, Vec<Cell>) {
         old = new;
     }
     let front = path[path.len() - 1].position;
-    let widest = widest(&cells);
+    let widest = widest(&cells, vehicle.units.len());
     (Swept::Finished { steps: path.len() as u32 - 1, widest, front: (front.x, front.y) }, cells)
 }
 

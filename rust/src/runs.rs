@@ -2,7 +2,7 @@
 
 use crate::jobs::Chance;
 
-/// The path's four runs, the least and greatest reach at each station, and its mark, a bit a point.
+/// The path's four runs, the least and greatest reach at each station, and its mark, 32 bits, a bit a point.
 #[derive(Clone, Debug, PartialEq, Eq)]
 pub struct Runs {
     pub xs: Vec<i32>,
@@ -11,7 +11,7 @@ pub struct Runs {
     pub gys: Vec<i32>,
     pub left: Vec<i32>,
     pub right: Vec<i32>,
-    pub marks: Vec<u8>,
+    pub marks: Vec<u32>,
 }
 
 impl Runs {
@@ -25,12 +25,12 @@ impl Runs {
     pub fn by_chance(chance: &mut Chance, lengths: [usize; 7]) -> Runs {
         let mut run = |length: usize| (0..length).map(|_| chance.word() as i32).collect::<Vec<i32>>();
         let [xs, ys, gxs, gys, left, right, marks] = lengths.map(&mut run);
-        Runs { xs, ys, gxs, gys, left, right, marks: marks.into_iter().map(|entry| entry as u8).collect() }
+        Runs { xs, ys, gxs, gys, left, right, marks: marks.into_iter().map(|entry| entry as u32).collect() }
     }
 
     /// The fewest entries that one of them has.
     pub fn shortest(&self) -> usize {
-        let wide = [&self.xs, &self.ys, &self.gxs, &self.gys, &self.left, &self.right];
-        wide.iter().fold(self.marks.len(), |fewest, run| fewest.min(run.len()))
+        let signed = [&self.xs, &self.ys, &self.gxs, &self.gys, &self.left, &self.right];
+        signed.iter().fold(self.marks.len(), |fewest, run| fewest.min(run.len()))
     }
 }

@@ -28,6 +28,22 @@ fn the_worked_job_lists_what_is_worked_out_by_hand() {
     assert_eq!(text(&job, 199_969, 1, 32), "refused 30\n", "the last is 200,000");
 }
 
+/// The same rig as a long job, with a tail of 5,000 behind the axle: no wheelbase over 45,000 leaves a station complete.
+fn worked_long_job() -> Vec<u8> {
+    bytes_of_hex("0bd086030000904e8827e05d00e05de05d00000080897a882701e8fb0300").expect("hexadecimal")
+}
+
+#[test]
+fn the_long_worked_job_lists_what_is_worked_out_by_hand() {
+    let job = worked_long_job();
+    assert_eq!(text(&job, 44_999, 1, 32), "setting 44999 24000\nsetting 45000 24000\n");
+    assert_eq!(text(&job, 5_000, 20_000, 10), "setting 5000 24000\nsetting 25000 24000\nsetting 45000 24000\n");
+    assert_eq!(text(&job, 45_001, 1, 32), "refused 30\n");
+    let wide = with_last_wheelbase(&job, 200_000);
+    assert_eq!(text(&wide, 45_000, 1, 1), "setting 45000 24000\n", "its own wheelbase is not walked");
+    assert_eq!(text(&with_last_wheelbase(&job, 200_001), 45_000, 1, 1), "refused 4 at 1\n");
+}
+
 #[test]
 fn the_worked_job_is_refused_in_order() {
     let job = worked_job();
@@ -44,10 +60,12 @@ fn the_worked_job_is_refused_in_order() {
     assert_eq!(text(&with_last_wheelbase(&job, 4_999), 50_000, 1, 1), "refused 4 at 1\n");
 }
 
-/// The record of an accepted job with its last wheelbase, the field after three a unit ahead, written anew.
+/// The record of an accepted job with its last wheelbase written anew: it stands after three fields a unit ahead, in a
+/// long job after six.
 fn with_last_wheelbase(job: &[u8], wheelbase: u32) -> Vec<u8> {
     let fields: Vec<&[u8]> = job.split_inclusive(|byte| byte & 0x80 == 0).collect();
-    let last = 1 + 3 * (usize::from(job[0]) - 1);
+    let first = usize::from(job[0]);
+    let last = if first > 10 { 1 + 6 * (first - 11) } else { 1 + 3 * (first - 1) };
     let mut anew = fields[..last].concat();
     anew.extend(encode(u64::from(wheelbase)));
     anew.extend(fields[last + 1..].concat());

@@ -4,7 +4,7 @@
 
 use std::collections::BTreeMap;
 use std::time::{Duration, Instant};
-use turning::jobs::{heading, heaviest, some_job, Chance};
+use turning::jobs::{heading, heaviest, heaviest_long, some_job, Chance};
 use turning::runs::Runs;
 use turning::turns::{corner_turn, some_turn, Turn};
 use turning::{hex_of_bytes, product, reference, Swept};
@@ -16,8 +16,28 @@ fn setting(name: &str, usual: u64) -> u64 {
     std::env::var(name).map_or(usual, |text| text.parse().unwrap_or_else(|_| panic!("{name} is a number")))
 }
 
-fn kind_of(swept: &Swept) -> String {
+/// Which form of job the first byte announces, if any.
+fn form_of(job: &[u8]) -> &'static str {
+    match job.first() {
+        Some(1..=4) => "short",
+        Some(11..=14) => "long",
+        _ => "other",
+    }
+}
+
+/// The overhang or half width that starts at this byte; every field before it ends in a byte without the top bit.
+fn measure_at(job: &[u8], at: usize) -> &'static str {
+    let before = job[..at].iter().filter(|byte| **byte < 0x80).count() - 1;
+    let (units, each) = if job[0] > 10 { (usize::from(job[0] - 10), 6) } else { (usize::from(job[0]), 3) };
+    match before.checked_sub(each * units) {
+        None => ["body's front overhang", "body's rear overhang", "body's half width"][before % each - 3],
+        Some(after) => ["overhang", "front half width", "rear half width"][after],
+    }
+}
+
+fn kind_of(job: &[u8], swept: &Swept) -> String {
     match swept {
+        Swept::Refused { number: 5, at } => format!("refused  5, {}", measure_at(job, *at)),
         Swept::Refused { number, .. } => format!("refused {number:2}"),
         Swept::Stopped { number, unit, .. } => format!("stopped {number} unit {unit}"),
         Swept::Finished { widest: None, .. } => "finished, widest none".to_string(),
@@ -74,19 +94,21 @@ fn jobs_are_answered_as_by_the_reference() {
     let mut chance = Chance::new(setting("TURNING_SEED", 1));
     let mut kinds: BTreeMap<String, u64> = BTreeMap::new();
     let mut slowest = check_job(&heaviest(), &reference::sweep(&heaviest()), 5);
+    slowest = slowest.max(check_job(&heaviest_long(), &reference::sweep(&heaviest_long()), 5));
     for round in 0..count {
         let job = some_job(&mut chance);
         let expected = reference::sweep(&job);
         slowest = slowest.max(check_job(&job, &expected, round as usize % 4));
-        *kinds.entry(kind_of(&expected)).or_default() += 1;
+        *kinds.entry(format!("{:5} {}", form_of(&job), kind_of(&job, &expected))).or_default() += 1;
     }
     for (kind, times) in &kinds {
-        println!("{kind:22} {times:7}");
+        println!("{kind:40} {times:7}");
     }
     println!("{count} jobs, no difference, the slowest in {:.1} ms", slowest.as_secs_f64() * 1e3);
     assert!(slowest < Duration::from_secs(1), "no job takes a second");
-    // 10 refusals, 22 at four units, 23 at three, and finished with a widest place or none.
-    assert!(count < 20_000 || kinds.len() == 19, "some kind of outcome is missing: {kinds:?}");
+    // In each form eight refusals beside 5, 22 at four units, 23 at three, and finished with a widest place or none;
+    // 5 at three fields of a short job and at six of a long one; in neither form 1, 2 and 3.
+    assert!(count < 20_000 || kinds.len() == 46, "some kind of outcome is missing: {kinds:?}");
 }
 
 #[test]
@@ -96,8 +118,10 @@ fn lent_runs_are_left_as_by_the_reference() {
     let mut kinds: BTreeMap<String, u64> = BTreeMap::new();
     let most = Runs::by_chance(&mut chance, [2_003; 7]);
     check_run(&heaviest(), &most, 1);
+    check_run(&heaviest_long(), &most, 1);
     for round in 0..count / 4 {
         let job = some_job(&mut chance);
+        *kinds.entry(form_of(&job).to_string()).or_default() += 1;
         let stations = reference::stations(&job);
         let mut lengths = [0; 7].map(|_: usize| stations + chance.below(4) as usize);
         if chance.one_in(4) && stations > 0 {
@@ -108,12 +132,13 @@ fn lent_runs_are_left_as_by_the_reference() {
             *kinds.entry(format!("refused 21, run {which}")).or_default() += 1;
         } else {
             let lent = Runs::by_chance(&mut chance, lengths);
-            *kinds.entry(kind_of(&check_run(&job, &lent, round as usize % 4))).or_default() += 1;
+            *kinds.entry(kind_of(&job, &check_run(&job, &lent, round as usize % 4))).or_default() += 1;
         }
     }
     println!("lent runs by outcome: {kinds:?}");
-    // Beside the 19 kinds of outcome, 21 at each of the seven runs.
-    assert!(count < 20_000 || kinds.len() == 26, "some kind of outcome is missing: {kinds:?}");
+    // Three forms, nine refusals beside 5, 5 at six fields, 22 and 23 at seven units, finished with a widest place or
+    // none, and 21 at each of the seven runs.
+    assert!(count < 20_000 || kinds.len() == 34, "some kind of outcome is missing: {kinds:?}");
 }
 
 #[test]

@@ -3,7 +3,7 @@
 
 use std::collections::BTreeMap;
 use std::time::{Duration, Instant};
-use turning::jobs::{heaviest, Chance};
+use turning::jobs::{heaviest, heaviest_long, Chance};
 use turning::lists::{some_list, List};
 use turning::runs::Runs;
 use turning::settings::{best, fitting, walks};
@@ -106,7 +106,12 @@ fn traits_of_walks(list: &List, made: &[(u32, Swept)]) -> Vec<(&'static str, boo
     let between = first.zip(last).is_some_and(|(first, last)| made[first..last].iter().any(stopped));
     let stops_by = |by: u32| made.iter().any(|walk| matches!(walk.1, Swept::Stopped { number, .. } if number == by));
     let some = !fit.is_empty();
+    let long = matches!(list.job[0], 11..=14);
     vec![
+        ("a short job listed", some && !long),
+        ("a long job listed", some && long),
+        ("none of a short job's to list", !some && !long),
+        ("none of a long job's to list", !some && long),
         ("stopped between fitting ones", between),
         ("listed, the first stopped", some && stopped(&made[0])),
         ("listed, the last stopped", some && stopped(&made[made.len() - 1])),
@@ -171,17 +176,19 @@ fn lists_are_answered_as_by_the_reference() {
     }
     println!("{count} lists, no difference, the slowest in {:.1} ms", slowest.as_secs_f64() * 1e3);
     // 10 refusals of the record, 21 at seven runs, 29 for six reasons, 30 in three ways and lists in four,
-    // beside them 16 traits of walks and two of refusals.
-    assert!(count < 2_000 || kinds.len() == 48, "some kind of outcome is missing: {kinds:?}");
+    // beside them 20 traits of walks and two of refusals.
+    assert!(count < 2_000 || kinds.len() == 52, "some kind of outcome is missing: {kinds:?}");
 }
 
 #[test]
-fn the_heaviest_list_is_answered_as_by_the_reference() {
-    let list = List { job: heaviest(), lowest: 64_500, pitch: 1_000, number: 32 };
-    let lent = Runs::by_chance(&mut Chance::new(32), [2_003; 7]);
-    let (made, taken) = check_list(&list, &lent, 1);
-    assert_eq!(fitting(&made.expect("within the limits")).len(), 32, "all finish");
-    println!("32 settings of the heaviest job in {:.1} ms", taken.as_secs_f64() * 1e3);
+fn the_heaviest_lists_are_answered_as_by_the_reference() {
+    for (form, job) in [("short", heaviest()), ("long", heaviest_long())] {
+        let list = List { job, lowest: 64_500, pitch: 1_000, number: 32 };
+        let lent = Runs::by_chance(&mut Chance::new(32), [2_003; 7]);
+        let (made, taken) = check_list(&list, &lent, 1);
+        assert_eq!(fitting(&made.expect("within the limits")).len(), 32, "all finish");
+        println!("32 settings of the heaviest {form} job in {:.1} ms", taken.as_secs_f64() * 1e3);
+    }
 }
 
 #[test]

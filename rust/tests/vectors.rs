@@ -22,11 +22,12 @@ fn job_vectors() -> Vec<(Vec<u8>, String)> {
 
 fn check(name: &str, sweep: fn(&[u8]) -> Swept) {
     let vectors = job_vectors();
-    assert!(vectors.len() >= 300);
+    let long = vectors.iter().filter(|(bytes, _)| matches!(bytes.first(), Some(11..=14))).count();
+    assert!(long >= 300 && vectors.len() - long >= 300, "both forms are among them");
     for (bytes, expected) in &vectors {
         assert_eq!(sweep(bytes).to_string(), *expected, "{name} on {}", turning::hex_of_bytes(bytes));
     }
-    println!("{name}: {} job vectors hold", vectors.len());
+    println!("{name}: {} job vectors hold, {long} of them of long jobs", vectors.len());
 }
 
 /// The integers before and after the ` = ` of each call of one operation.
