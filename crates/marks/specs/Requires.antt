@@ -6,7 +6,10 @@ use Rattle.marks.specs.Marks.{markWidth}
 pub record HasPlace (p : ℕ) : Type 0 where
   pub place : p < markWidth
 
--- no more points than the arrays have room for
+-- a point that the arrays have room for, and no more points than that
+pub record HasRoom (p : ℕ) : Type 0 where
+  pub place : p < pointCapacity
+
 pub record Counted (n : ℕ) : Type 0 where
   pub most : n ≤ pointCapacity
 

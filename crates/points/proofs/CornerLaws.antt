@@ -11,7 +11,7 @@ use Rattle.job.specs.declared.Form.the-variants.{Short, Long}
 use Rattle.job.specs.declared.Unit.{Unit as VehicleUnit}
 use Rattle.job.specs.declared.Vehicle.{Vehicle}
 use Rattle.job.specs.Empty.{emptyUnit}
-use Rattle.points.specs.declared.table.Base.{Base}
+use Rattle.point_table.specs.declared.Base.{Base}
 use Rattle.points.specs.declared.corners.Corner.{Corner}
 use Rattle.points.specs.Corners.{unitOf, isFront, bodyBy, bodyOf, corner, frontCorner, rearCorner, cornerOf}
 use Rattle.points.specs.Requires.{UnitInUse}

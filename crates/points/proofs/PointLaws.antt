@@ -25,17 +25,18 @@ use Rattle.marks.specs.Count.{pointCount}
 use Rattle.marks.proofs.CountLaws.{count-fits}
 use Rattle.points.specs.declared.UnitPlace.{UnitPlace}
 use Rattle.points.specs.declared.End.{End}
-use Rattle.points.specs.declared.table.Base.{Base}
-use Rattle.points.specs.declared.table.Base.the-variants.{Front, Rear, LastRear}
-use Rattle.points.specs.declared.table.Along.{Along}
-use Rattle.points.specs.declared.table.Along.the-variants as A
-use Rattle.points.specs.declared.table.Width.{Width}
-use Rattle.points.specs.declared.table.Width.the-variants as W
-use Rattle.points.specs.declared.table.Row.{Row}
+use Rattle.point_table.specs.declared.Base.{Base}
+use Rattle.point_table.specs.declared.Base.the-variants.{Front, Rear, LastRear}
+use Rattle.point_table.specs.declared.Along.{Along}
+use Rattle.point_table.specs.declared.Along.the-variants as A
+use Rattle.point_table.specs.declared.Width.{Width}
+use Rattle.point_table.specs.declared.Width.the-variants as W
+use Rattle.point_table.specs.declared.Row.{Row}
 use Rattle.points.specs.declared.corners.Corner.{Corner}
 use Rattle.points.specs.Corners.{cornerOf}
 use Rattle.points.specs.Ends.{noPlace, noPlaces, placesOf, frontEnd, rearEnd}
-use Rattle.points.specs.Points.{rowAt, alongOf, halfWidth, sideOf, endOf, offsetFrom, pointAt, rigPoints, pointRows, noPoints}
+use Rattle.point_table.specs.Table.{pointRows, rowAt}
+use Rattle.points.specs.Points.{alongOf, halfWidth, sideOf, endOf, offsetFrom, pointAt, rigPoints, noPoints}
 use Rattle.points.specs.Requires.{PlaceSized, CornerSized, BodySized, RigAt, UnitsSized, EndSized, BaseInUse, OffsetSized}
 use Rattle.points.proofs.EndLaws.{place-more, places-fit, units-sized}
 use Rattle.points.proofs.TableLaws.{rows-taken, row-in-use}

@@ -20,8 +20,8 @@ use Rattle.walk.specs.Tests.{vehicleSound}
 use Rattle.walk.specs.Inner.{RigReady}
 use Rattle.path.specs.Laying.{SoundStation}
 use Rattle.walk.proofs.VehicleTests.{units-lengths, body-ready, overhang-most, front-bounds, rear-bounds}
-use Rattle.points.specs.declared.table.Base.{Base}
-use Rattle.points.specs.declared.table.Base.the-variants.{Front, Rear, LastRear}
+use Rattle.point_table.specs.declared.Base.{Base}
+use Rattle.point_table.specs.declared.Base.the-variants.{Front, Rear, LastRear}
 use Rattle.points.specs.Corners.{bodyBy, bodyOf, corner, frontBy, frontCorner, rearCorner, cornerOf}
 use Rattle.points.specs.Requires.{BaseInUse, CornerSized, BodySized, RigAt}
 

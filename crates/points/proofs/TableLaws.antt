@@ -13,10 +13,10 @@ use Rattle.number.proofs.FieldCodec.{both}
 use Rattle.job.specs.declared.Vehicle.{Vehicle}
 use Rattle.marks.specs.Count.{pointCount}
 use Rattle.marks.proofs.CountLaws.{count-fits, unit-counted}
-use Rattle.points.specs.declared.table.Base.{Base}
-use Rattle.points.specs.declared.table.Base.the-variants.{Front, Rear, LastRear}
-use Rattle.points.specs.declared.table.Row.{Row}
-use Rattle.points.specs.Points.{pointRows, rowAt}
+use Rattle.point_table.specs.declared.Base.{Base}
+use Rattle.point_table.specs.declared.Base.the-variants.{Front, Rear, LastRear}
+use Rattle.point_table.specs.declared.Row.{Row}
+use Rattle.point_table.specs.Table.{pointRows, rowAt}
 use Rattle.points.specs.Corners.{unitOf}
 use Rattle.points.specs.Requires.{BaseInUse}
 

@@ -22,9 +22,10 @@ use Rattle.walk.specs.Rig.{zeroVector}
 use Rattle.walk.specs.Inner.{UnitDrawn, HitchReady, RigReady}
 use Rattle.marks.specs.Count.{pointCount}
 use Rattle.marks.proofs.CountLaws.{some-point}
-use Rattle.points.specs.declared.table.Base.the-variants.{Front, LastRear}
+use Rattle.point_table.specs.declared.Base.the-variants.{Front, LastRear}
 use Rattle.points.specs.Ends.{noPlaces, placesOf}
-use Rattle.points.specs.Points.{rowAt, endOf}
+use Rattle.point_table.specs.Table.{rowAt}
+use Rattle.points.specs.Points.{endOf}
 use Rattle.points.specs.Requires.{PlaceSized, UnitInUse, BaseInUse, BodySized, RigAt, UnitsSized, EndSized, OffsetSized, Measured}
 use Rattle.points.proofs.EndLaws.{units-sized}
 use Rattle.points.proofs.SoundRig.{sound-body}

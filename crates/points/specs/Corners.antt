@@ -11,8 +11,8 @@ use Rattle.job.specs.declared.Form.the-variants.{Short, Long}
 use Rattle.job.specs.declared.Vehicle.{Vehicle}
 use Rattle.job.specs.Empty.{emptyUnit}
 use Rattle.walk.specs.Tests.{unitsInUse}
-use Rattle.points.specs.declared.table.Base.{Base}
-use Rattle.points.specs.declared.table.Base.the-variants.{Front, Rear, LastRear}
+use Rattle.point_table.specs.declared.Base.{Base}
+use Rattle.point_table.specs.declared.Base.the-variants.{Front, Rear, LastRear}
 use Rattle.points.specs.declared.corners.Corner.{Corner}
 
 -- the unit that a base belongs to, and whether it is its front point

@@ -1,6 +1,6 @@
 -- The points of a rig (01, "Stations and the widest place"), as the table numbers them.
 use Prim.Native.Nat.{ℕ}
-use mathlib.Core.List.{List, [], _∷_, map}
+use mathlib.Core.List.{List, map}
 use lib.ListN.{getD, take, replicate}
 use lib.IntN.{ℤ, pos, negℤ}
 use Rattle.number.specs.Read.{pick}
@@ -12,40 +12,18 @@ use Rattle.job.specs.declared.Vehicle.{Vehicle}
 use Rattle.walk.specs.Drawn.{Drawn}
 use Rattle.walk.specs.Rig.{zeroVector}
 use Rattle.marks.specs.Count.{pointCount, pointCapacity}
+use Rattle.point_table.specs.declared.Base.{Base}
+use Rattle.point_table.specs.declared.Along.{Along}
+use Rattle.point_table.specs.declared.Along.the-variants as A
+use Rattle.point_table.specs.declared.Width.{Width}
+use Rattle.point_table.specs.declared.Width.the-variants as W
+use Rattle.point_table.specs.declared.Row.{Row}
+use Rattle.point_table.specs.Table.{pointRows}
 use Rattle.points.specs.declared.UnitPlace.{UnitPlace}
 use Rattle.points.specs.declared.End.{End}
-use Rattle.points.specs.declared.table.Base.{Base}
-use Rattle.points.specs.declared.table.Base.the-variants.{Front, Rear, LastRear}
-use Rattle.points.specs.declared.table.Along.{Along}
-use Rattle.points.specs.declared.table.Along.the-variants as A
-use Rattle.points.specs.declared.table.Width.{Width}
-use Rattle.points.specs.declared.table.Width.the-variants as W
-use Rattle.points.specs.declared.table.Row.{Row}
 use Rattle.points.specs.declared.corners.Corner.{Corner}
 use Rattle.points.specs.Corners.{unitOf, isFront, cornerOf}
 use Rattle.points.specs.Ends.{noPlace, placesOf, frontEnd, rearEnd}
-
-abbrev pub row : Base → Along → Side → Width → Row
-row b a s w = record { base = b; along = a; side = s; width = w }
-
--- no. 0 to 5, then "numbered from 6, unit by unit, front left, front right, rear left, rear right" (02, N3): base, "along" ahead of it,
--- "side" to the left (−) or the right (+) by a half width; unit 1 of the paper is unit 0 here
-abbrev pub pointRows : List Row
-pointRows =
-    row (Front 0) A.Corner Left W.Corner ∷ row (Front 0) A.Corner Right W.Corner
-    ∷ row (Front 0) A.Nothing Left W.FrontHalf ∷ row (Front 0) A.Nothing Right W.FrontHalf
-    ∷ row LastRear A.Nothing Left W.RearHalf ∷ row LastRear A.Nothing Right W.RearHalf
-    ∷ row (Rear 0) A.Corner Left W.Corner ∷ row (Rear 0) A.Corner Right W.Corner
-    ∷ row (Front 1) A.Corner Left W.Corner ∷ row (Front 1) A.Corner Right W.Corner
-    ∷ row (Rear 1) A.Corner Left W.Corner ∷ row (Rear 1) A.Corner Right W.Corner
-    ∷ row (Front 2) A.Corner Left W.Corner ∷ row (Front 2) A.Corner Right W.Corner
-    ∷ row (Rear 2) A.Corner Left W.Corner ∷ row (Rear 2) A.Corner Right W.Corner
-    ∷ row (Front 3) A.Corner Left W.Corner ∷ row (Front 3) A.Corner Right W.Corner
-    ∷ row (Rear 3) A.Corner Left W.Corner ∷ row (Rear 3) A.Corner Right W.Corner ∷ []
-
--- the row of point k
-abbrev pub rowAt : ℕ → Row
-rowAt k = getD pointRows k (row (Front 0) A.Corner Left W.Corner)
 
 -- "F of unit 1", "R of last unit"
 abbrev pub endOf : Vehicle → List UnitPlace → Base → End

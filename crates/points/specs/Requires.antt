@@ -11,10 +11,10 @@ use Rattle.unit.specs.Turn.{Wheelbase}
 use Rattle.walk.specs.Inner.{RigReady}
 use Rattle.points.specs.declared.UnitPlace.{UnitPlace}
 use Rattle.points.specs.declared.End.{End}
-use Rattle.points.specs.declared.table.Base.{Base}
+use Rattle.point_table.specs.declared.Base.{Base}
 use Rattle.points.specs.declared.corners.Corner.{Corner}
 use Rattle.points.specs.Corners.{unitOf, cornerOf}
-use Rattle.points.specs.declared.table.Row.{Row}
+use Rattle.point_table.specs.declared.Row.{Row}
 use Rattle.points.specs.Ends.{noPlace}
 
 -- the size of a place: coordinates up to b

@@ -1,8 +1,8 @@
 // The corners of a unit's body.
-use crate::table::Base;
 use job::Body;
 use job::Form;
 use job::Vehicle;
+use point_table::Base;
 ghost use mathlib.Core.Path.{_≡_};
 ghost use Rattle.points.specs.Corners.{bodyOf, frontCorner, rearCorner, unitOf, isFront, cornerOf};
 ghost use Rattle.points.specs.Requires.{UnitInUse, BaseInUse};

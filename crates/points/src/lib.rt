@@ -1,17 +1,15 @@
 // The points of a rig that are measured at the stations.
 mod corners;
-mod table;
 
 use crate::corners::Corner;
-use crate::table::Along;
-use crate::table::Base;
-use crate::table::ROWS;
-use crate::table::Row;
-use crate::table::Width;
 use job::Side;
 use job::Unit;
 use job::Vehicle;
 use plane::Vec2;
+use point_table::Along;
+use point_table::Base;
+use point_table::Row;
+use point_table::Width;
 ghost use mathlib.Core.Path.{_≡_};
 ghost use lib.Seq.{sets};
 ghost use Rattle.exact.specs.Size.{Within};
@@ -187,7 +185,8 @@ pub fn points(v: Vehicle, d: [Vec2; 4], front: Vec2) -> [Vec2; marks::POINT_CAPA
     let mut all = [Vec2 { x: 0, y: 0 }; marks::POINT_CAPACITY];
     let mut k = 0;
     while k < count {
-        all[k] = point(v, places, ROWS[k]);
+        let row = point_table::row_of(k);
+        all[k] = point(v, places, row);
         k += 1;
     }
     all

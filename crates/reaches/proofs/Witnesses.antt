@@ -1,5 +1,5 @@
 -- Each requirement of this crate can be met, at the ends of its ranges too.
-use Prim.Native.Nat.{ℕ, _+_, _*_, _/_, _<_}
+use Prim.Native.Nat.{ℕ, _+_, _*_, _-_, _/_, _<_}
 use mathlib.Core.Path.{_≡_, refl, sym, subst}
 use mathlib.Core.List.{List, [], _∷_}
 use native.Mathlib.Omega.{arith}
@@ -10,14 +10,14 @@ use lib.Signed.{_≤ℤ_, leZ-yes}
 use Rattle.plane.specs.declared.Vec2.{Vec2}
 use Rattle.marks.specs.Marks.{markWidth}
 use Rattle.marks.specs.Count.{pointCapacity}
-use Rattle.marks.specs.Requires.{Counted}
+use Rattle.marks.specs.Requires.{HasRoom, Counted}
 use Rattle.path.specs.declared.Station.{Station}
 use Rattle.path.specs.Laying.{PathRuns, SoundStation}
 use Rattle.walk.specs.Drawn.{stationAt}
 use Rattle.walk.specs.Rig.{zeroVector}
 use Rattle.reaches.specs.Cells.{Reaches}
 use Rattle.reaches.specs.Inner.{Room, SizedPoint, Measurable, Movable, Numbered, AllMoves, Enterable, Crossable, Searchable}
-use Rattle.reaches.specs.Far.{apart, Spread, PairSpread, Sized, BothSized, AllSized, PairsSized, PairMoves, Measured, NearStation, AtStation}
+use Rattle.reaches.specs.Far.{apart, Spread, PairSpread, Sized, BothSized, AllSized, PairsSized, PairMoves, PairAt, Measured, NearStation, AtStation}
 
 abbrev vec : ℤ → ℤ → Vec2
 vec a b = record { x = a; y = b }
@@ -58,6 +58,9 @@ movable-met = record { station = station-met; from = point-met; to = point-met }
 numbered-met : Numbered 5 corner opposite opposite
 numbered-met = record { number = record { place = lit< tt }; move = movable-met }
 
+room-there-met : HasRoom (pointCapacity - 1)
+room-there-met = record { place = lit< tt }
+
 counted-met : Counted pointCapacity
 counted-met = record { most = lit≤ tt }
 
@@ -66,7 +69,7 @@ all-met : (p : ℕ) → p < pointCapacity → SizedPoint (getD points p zeroVect
 all-met p h = subst SizedPoint (sym (getD-replicate pointCapacity p opposite zeroVector h)) point-met
 
 moves-met : AllMoves corner pointCapacity points points
-moves-met = record { room = counted-met; move = λ p h. record { station = station-met; from = all-met p h; to = all-met p h } }
+moves-met = record { room = counted-met; allOld = lit≤ tt; allNew = lit≤ tt; move = λ p h. record { station = station-met; from = all-met p h; to = all-met p h } }
 
 -- they do not spread at all
 spread-met : Spread opposite pointCapacity points points (pos 0)
@@ -99,6 +102,9 @@ pairs-sized-met = record { room = counted-met; old = all-met; new = all-met }
 
 pair-met : PairMoves corner (pos 0) opposite opposite opposite opposite
 pair-met = record { left = movable-met; right = movable-met; newNear = leZ-yes tt; oldRightNear = leZ-yes tt; newRightNear = leZ-yes tt; size = record { size = lit≤ tt } }
+
+pair-at-met : PairAt corner (pos 0) (pointCapacity / 2 - 1) points points
+pair-at-met = record { room = room-there-met; moves = pair-met }
 
 enterable-met : Enterable 0 corner pointCapacity points points runs
 enterable-met = record { moves = moves-met; left = lit< tt; right = lit< tt; marks = lit< tt }

@@ -8,11 +8,11 @@ use lib.IntN.{ℤ, pos, natAbs, _+ℤ_, _-ℤ_, _*ℤ_}
 use lib.Signed.{leZ, _≤ℤ_}
 use Rattle.exact.specs.Size.{Within}
 use Rattle.plane.specs.declared.Vec2.{Vec2}
-use Rattle.marks.specs.Requires.{Counted}
+use Rattle.marks.specs.Requires.{HasRoom, Counted}
 use Rattle.plane.specs.Length.{headingLength}
 use Rattle.path.specs.declared.Station.{Station}
 use Rattle.walk.specs.Rig.{zeroVector}
-use Rattle.reaches.specs.Crossing.{aheadOf}
+use Rattle.reaches.specs.Crossing.{aheadOf, crosses}
 use Rattle.reaches.specs.Cells.{Reaches}
 use Rattle.reaches.specs.Inner.{SizedPoint, Measurable, Movable, AllMoves}
 
@@ -64,6 +64,14 @@ pub record PairMoves (s : Station) (near : ℤ) (old new oldRight newRight : Vec
   pub oldRightNear : apart old oldRight ≤ℤ near
   pub newRightNear : apart old newRight ≤ℤ near
   pub size : Within 640000000 near
+
+-- pair k of the points, and whether either of it crosses
+abbrev pub pairCrosses : Station → ℕ → List Vec2 → List Vec2 → Bool
+pairCrosses s k olds news = crosses s (getD olds (2 * k) zeroVector) (getD news (2 * k) zeroVector) || crosses s (getD olds (2 * k + 1) zeroVector) (getD news (2 * k + 1) zeroVector)
+
+pub record PairAt (s : Station) (near : ℤ) (k : ℕ) (olds news : List Vec2) : Type 0 where
+  pub room : HasRoom (2 * k + 1)
+  pub moves : PairMoves s near (getD olds (2 * k) zeroVector) (getD news (2 * k) zeroVector) (getD olds (2 * k + 1) zeroVector) (getD news (2 * k + 1) zeroVector)
 
 pub record Measured (s : Station) (a : Vec2) (r : ℤ) : Type 0 where
   pub point : Measurable s a

@@ -43,6 +43,8 @@ pub record Numbered (p : ℕ) (s : Station) (old new : Vec2) : Type 0 where
 -- the moves of all points, of which there are so many
 pub record AllMoves (s : Station) (count : ℕ) (olds news : List Vec2) : Type 0 where
   pub room : Counted count
+  pub allOld : count ≤ length olds
+  pub allNew : count ≤ length news
   pub move : (p : ℕ) → p < count → Movable s (getD olds p zeroVector) (getD news p zeroVector)
 
 -- a station whose cell is to be written

@@ -1,13 +1,15 @@
 // What the points that cross a station make of its cell.
 use crate::Cell;
-use marks::POINT_CAPACITY;
+use crate::coordinates;
+use crate::coordinates::COORDINATES;
 use path::Station;
 use plane::Vec2;
 ghost use mathlib.Core.Path.{_≡_};
 ghost use mathlib.Core.Bool.{_||_};
 ghost use lib.ListN.{take};
+ghost use Rattle.reaches.specs.Coordinates.{pointsOf};
 ghost use Rattle.reaches.specs.Crossing.{aheadOf, reachOf, crosses, smaller as smallerZ, greater as greaterZ, crossedBy, crossedFrom};
-ghost use Rattle.reaches.specs.Far.{PairMoves};
+ghost use Rattle.reaches.specs.Far.{PairMoves, PairAt, pairCrosses};
 ghost use Rattle.reaches.specs.Inner.{Measurable, Movable, Numbered, AllMoves};
 
 // How far ahead of a station a point lies, times the heading's length.
@@ -89,18 +91,18 @@ fn crossed_cell(p: usize, s: Station, old: Vec2, new: Vec2, c: Cell) -> Cell
 pub(crate) fn crossed_by_all(
     s: Station,
     count: usize,
-    olds: [Vec2; POINT_CAPACITY],
-    news: [Vec2; POINT_CAPACITY],
+    olds: &[i64; COORDINATES],
+    news: &[i64; COORDINATES],
     c: Cell,
 ) -> Cell
-    requires { ⌜ AllMoves s count olds news ⌝ }
-    ensures { λ r. ⌜ r ≡ crossedFrom 0 s (take count olds) (take count news) c ⌝ }
+    requires { ⌜ AllMoves s count (pointsOf (now olds)) (pointsOf (now news)) ⌝ }
+    ensures { λ r. ⌜ r ≡ crossedFrom 0 s (take count (pointsOf (now (olds .entry)))) (take count (pointsOf (now (news .entry)))) c ⌝ }
 {
     let mut next = c;
     let mut p: usize = 0;
     while p < count {
-        let old = olds[p];
-        let new = news[p];
+        let old = coordinates::point_at(olds, p);
+        let new = coordinates::point_at(news, p);
         next = crossed_cell(p, s, old, new, next);
         p += 1;
     }
@@ -108,15 +110,7 @@ pub(crate) fn crossed_by_all(
 }
 
 // Whether either point of a pair, left and right, crosses a station; one product tells where both lie too far off.
-// Apart from what a crossing does, and without the arrays of points, so that nothing is copied at the many stations that none crosses.
-pub(crate) fn pair_crosses(
-    s: Station,
-    near: i64,
-    old: Vec2,
-    new: Vec2,
-    other: Vec2,
-    moved: Vec2,
-) -> bool
+fn either_crosses(s: Station, near: i64, old: Vec2, new: Vec2, other: Vec2, moved: Vec2) -> bool
     requires { ⌜ PairMoves s near old new other moved ⌝ }
     ensures { λ r. ⌜ r ≡ (crosses s old new || crosses s other moved) ⌝ }
 {
@@ -127,4 +121,23 @@ pub(crate) fn pair_crosses(
         return true;
     }
     crosses_station(s, other, moved)
+}
+
+// The same of pair k of those whose coordinates are lent.
+pub(crate) fn pair_crosses(
+    s: Station,
+    near: i64,
+    k: usize,
+    olds: &[i64; COORDINATES],
+    news: &[i64; COORDINATES],
+) -> bool
+    requires { ⌜ PairAt s near k (pointsOf (now olds)) (pointsOf (now news)) ⌝ }
+    ensures { λ r. ⌜ r ≡ pairCrosses s k (pointsOf (now (olds .entry))) (pointsOf (now (news .entry))) ⌝ }
+{
+    let p = 2 * k;
+    let old = coordinates::point_at(olds, p);
+    let new = coordinates::point_at(news, p);
+    let other = coordinates::point_at(olds, p + 1);
+    let moved = coordinates::point_at(news, p + 1);
+    either_crosses(s, near, old, new, other, moved)
 }

@@ -1,4 +1,5 @@
 // What the stations keep of the points that cross them, and where the rig is widest.
+use crate::coordinates::COORDINATES;
 use marks::Mark;
 use marks::POINT_CAPACITY;
 use path::Station;
@@ -8,6 +9,7 @@ ghost use mathlib.Core.Path.{_≡_};
 ghost use lib.ListN.{take};
 ghost use Rattle.path.specs.Laying.{pathRuns};
 ghost use Rattle.reaches.specs.Cells.{reachRuns, cleared};
+ghost use Rattle.reaches.specs.Coordinates.{pointsOf};
 ghost use Rattle.reaches.specs.Crossing.{crossedStation, crossed};
 ghost use Rattle.reaches.specs.Widest.{placeOf, wider as widerOf, considered as consideredOf, widestAmong, widestLent, widestAnswer, WidestPlace};
 ghost use Rattle.walk.specs.Drawn.{view};
@@ -15,6 +17,7 @@ ghost use Rattle.marks.specs.Requires.{HavePlaces};
 ghost use Rattle.reaches.specs.Inner.{Room, Searchable, Enterable, Crossable};
 ghost use Rattle.reaches.specs.Far.{AtStation, NearStation};
 
+mod coordinates;
 mod crossing;
 mod far;
 
@@ -63,14 +66,14 @@ fn enter_station(
     i: usize,
     s: Station,
     count: usize,
-    olds: [Vec2; POINT_CAPACITY],
-    news: [Vec2; POINT_CAPACITY],
+    olds: &[i64; COORDINATES],
+    news: &[i64; COORDINATES],
     left: &mut [i32],
     right: &mut [i32],
     marks: &mut [Mark],
 )
-    requires { ⌜ Enterable i s count olds news (reachRuns (now left) (now right) (now marks)) ⌝ }
-    ensures { λ _. ⌜ reachRuns (now (left .exit)) (now (right .exit)) (now (marks .exit)) ≡ crossedStation i s (take count olds) (take count news) (reachRuns (now (left .entry)) (now (right .entry)) (now (marks .entry))) ⌝ }
+    requires { ⌜ Enterable i s count (pointsOf (now olds)) (pointsOf (now news)) (reachRuns (now left) (now right) (now marks)) ⌝ }
+    ensures { λ _. ⌜ reachRuns (now (left .exit)) (now (right .exit)) (now (marks .exit)) ≡ crossedStation i s (take count (pointsOf (now (olds .entry)))) (take count (pointsOf (now (news .entry)))) (reachRuns (now (left .entry)) (now (right .entry)) (now (marks .entry))) ⌝ }
 {
     let cell = Cell {
         left: left[i],
@@ -90,24 +93,19 @@ fn cross_near_station(
     i: usize,
     s: Station,
     count: usize,
-    olds: [Vec2; POINT_CAPACITY],
-    news: [Vec2; POINT_CAPACITY],
+    olds: &[i64; COORDINATES],
+    news: &[i64; COORDINATES],
     beside: i64,
     left: &mut [i32],
     right: &mut [i32],
     marks: &mut [Mark],
 )
-    requires { ⌜ NearStation i s count olds news beside (reachRuns (now left) (now right) (now marks)) ⌝ }
-    ensures { λ _. ⌜ reachRuns (now (left .exit)) (now (right .exit)) (now (marks .exit)) ≡ crossedStation i s (take count olds) (take count news) (reachRuns (now (left .entry)) (now (right .entry)) (now (marks .entry))) ⌝ }
+    requires { ⌜ NearStation i s count (pointsOf (now olds)) (pointsOf (now news)) beside (reachRuns (now left) (now right) (now marks)) ⌝ }
+    ensures { λ _. ⌜ reachRuns (now (left .exit)) (now (right .exit)) (now (marks .exit)) ≡ crossedStation i s (take count (pointsOf (now (olds .entry)))) (take count (pointsOf (now (news .entry)))) (reachRuns (now (left .entry)) (now (right .entry)) (now (marks .entry))) ⌝ }
 {
     let mut k: usize = 0;
     while k < count / 2 {
-        let p = 2 * k;
-        let old = olds[p];
-        let new = news[p];
-        let other = olds[p + 1];
-        let moved = news[p + 1];
-        if crossing::pair_crosses(s, beside, old, new, other, moved) {
+        if crossing::pair_crosses(s, beside, k, olds, news) {
             enter_station(i, s, count, olds, news, left, right, marks);
             return;
         }
@@ -115,13 +113,13 @@ fn cross_near_station(
     }
 }
 
-// A made step at one station; near is how far the points spread from a place. The arrays of points go on only where the station is not too far off.
+// A made step at one station; near is how far the points spread from a place.
 fn cross_station(
     i: usize,
     s: Station,
     count: usize,
-    olds: [Vec2; POINT_CAPACITY],
-    news: [Vec2; POINT_CAPACITY],
+    olds: &[i64; COORDINATES],
+    news: &[i64; COORDINATES],
     from: Vec2,
     near: i64,
     beside: i64,
@@ -129,8 +127,8 @@ fn cross_station(
     right: &mut [i32],
     marks: &mut [Mark],
 )
-    requires { ⌜ AtStation i s count olds news from near beside (reachRuns (now left) (now right) (now marks)) ⌝ }
-    ensures { λ _. ⌜ reachRuns (now (left .exit)) (now (right .exit)) (now (marks .exit)) ≡ crossedStation i s (take count olds) (take count news) (reachRuns (now (left .entry)) (now (right .entry)) (now (marks .entry))) ⌝ }
+    requires { ⌜ AtStation i s count (pointsOf (now olds)) (pointsOf (now news)) from near beside (reachRuns (now left) (now right) (now marks)) ⌝ }
+    ensures { λ _. ⌜ reachRuns (now (left .exit)) (now (right .exit)) (now (marks .exit)) ≡ crossedStation i s (take count (pointsOf (now (olds .entry)))) (take count (pointsOf (now (news .entry)))) (reachRuns (now (left .entry)) (now (right .entry)) (now (marks .entry))) ⌝ }
 {
     if far::far_off(s, from, near) {
         return;
@@ -158,6 +156,8 @@ pub fn cross(
     let middle = olds[count / 2];
     let near = far::spread(middle, count, olds, news);
     let beside = far::pair_spread(count / 2, olds, news);
+    let from = coordinates::coordinates_of(olds);
+    let to = coordinates::coordinates_of(news);
     let mut i: usize = 0;
     while i < asked {
         let s = walk::tests::station_at(xs, ys, gxs, gys, i);
@@ -165,8 +165,8 @@ pub fn cross(
             i,
             s,
             count,
-            olds,
-            news,
+            &from,
+            &to,
             middle,
             near,
             beside,

@@ -20,14 +20,15 @@ use Rattle.walk.specs.Tests.{unitsInUse}
 use Rattle.walk.specs.Units.{hitchAt}
 use Rattle.points.specs.declared.UnitPlace.{UnitPlace}
 use Rattle.points.specs.declared.corners.Corner.{Corner}
-use Rattle.points.specs.declared.table.Base.{Base}
-use Rattle.points.specs.declared.table.Base.the-variants.{Front, Rear, LastRear}
-use Rattle.points.specs.declared.table.Width.{Width}
-use Rattle.points.specs.declared.table.Width.the-variants as W
-use Rattle.points.specs.declared.table.Row.{Row}
+use Rattle.point_table.specs.declared.Base.{Base}
+use Rattle.point_table.specs.declared.Base.the-variants.{Front, Rear, LastRear}
+use Rattle.point_table.specs.declared.Width.{Width}
+use Rattle.point_table.specs.declared.Width.the-variants as W
+use Rattle.point_table.specs.declared.Row.{Row}
 use Rattle.points.specs.Ends.{unitPlaces, placesOf}
 use Rattle.points.specs.Corners.{unitOf, bodyBy, bodyOf, frontBy, frontCorner, rearCorner, cornerOf}
-use Rattle.points.specs.Points.{pointRows, endOf, alongOf, halfWidth, pointAt, rigPoints}
+use Rattle.point_table.specs.Table.{pointRows}
+use Rattle.points.specs.Points.{endOf, alongOf, halfWidth, pointAt, rigPoints}
 use Rattle.stations.specs.Stepping.{pointsAt}
 use Rattle.unused.specs.Same.{SameVehicle, SameRig}
 

@@ -1,6 +1,6 @@
--- `points::points` meets its contract: the code's table is the definition's. The loop's invariant: the points left, over those filled in, are all of them. Assumes nothing.
+-- `points::points` meets its contract. The loop's invariant: the points left, over those filled in, are all of them. Assumes nothing.
 use Prim.Native.Nat.{ℕ, _+_, _-_, _≤_, _<_}
-use mathlib.Core.Path.{_≡_, refl, sym, _∙_, ap, ap₂, subst}
+use mathlib.Core.Path.{_≡_, refl, sym, _∙_, ap, ap₂, subst₂}
 use mathlib.Core.List.{List, map}
 use native.Mathlib.Omega.{arith}
 use borrow.Author.Needs.{needs}
@@ -10,7 +10,8 @@ use Rattle.plane.specs.declared.Vec2.{Vec2}
 use Rattle.marks.specs.Count.{pointCount, pointCapacity}
 use Rattle.marks.proofs.CountLaws.{count-fits}
 use Rattle.points.specs.declared.UnitPlace.{UnitPlace}
-use Rattle.points.specs.Points.{rowAt, pointAt, pointRows, noPoints}
+use Rattle.point_table.specs.Table.{pointRows, rowAt}
+use Rattle.points.specs.Points.{pointAt, noPoints}
 use Rattle.points.specs.Requires.{Measured}
 use Rattle.points.proofs.Filling.{filled-more, filled-all}
 use Rattle.points.proofs.TableLaws.{rows-enough, row-in-use}
@@ -42,16 +43,14 @@ point-count-requires c κs = record { most = c .before .pre .rig .most }
 loop-holds : tie.Need-loop-holds Inv-loop μ-loop
 loop-holds c = (search needs, refl)
 
-mul-point : tie.Need-mul-point Inv-loop μ-loop
-mul-point c = record { fits = omega (arith, there c) }
-
-array-copy-out-point : tie.Need-array-copy-out-point Inv-loop μ-loop
-array-copy-out-point c = there c
+row-of-requires : tie.Need-row-of-requires Inv-loop μ-loop
+row-of-requires c κs = record { place = there c }
 
 point-requires : tie.Need-point-requires Inv-loop μ-loop
-point-requires c κs = let s = c .before .before .before .before .before in
+point-requires c κs =
+    let s = c .before .before .before .before .before in
     let k = c .before .before .loop .k in
-    subst (λ (ps : List UnitPlace). Measured (s .args .v) ps (rowAt k)) (sym (c .before .before .before .before .unit-places .ensures))
+    subst₂ (Measured (s .args .v)) (sym (c .before .before .before .before .unit-places .ensures)) (sym (c .row-of .ensures))
     (record { rig = array-sized (s .pre); body = s .pre .body; base = row-in-use (s .args .v) (s .pre .rig .least) (s .pre .rig .most) k (own (c .before)) })
 
 mul-all : tie.Need-mul-all Inv-loop μ-loop
@@ -74,7 +73,7 @@ loop-again c =
     let placed = pointAt (s .args .v) (c .before .before .before .before .before .unit-places .result) in
     let enough : count .result ≤ length pointRows = rw (count .ensures) (rows-enough (s .args .v) (s .pre .rig .most)) in
     let left = map placed (drop (l .k + 1) (take (count .result) pointRows)) in
-    (search needs, ap (λ (p : Vec2). sets (set (l .all) (l .k) p) (l .k + 1) left) (c .point .ensures) ∙ filled-more placed pointRows (count .result) (l .all) (l .k) (rowAt 0) enough (c .before .before .loop-test .taken) ∙ l .inv .1)
+    (search needs, ap (λ (p : Vec2). sets (set (l .all) (l .k) p) (l .k + 1) left) (c .point .ensures ∙ ap placed (c .before .row-of .ensures)) ∙ filled-more placed pointRows (count .result) (l .all) (l .k) (rowAt 0) enough (c .before .before .loop-test .taken) ∙ l .inv .1)
 
 returns : tie.Need-returns Inv-loop μ-loop
 returns c =
@@ -95,8 +94,7 @@ points-spec =
     unit-places-requires
     point-count-requires
     loop-holds
-    mul-point
-    array-copy-out-point
+    row-of-requires
     point-requires
     mul-all
     array-set-from-all

@@ -5,7 +5,8 @@ use mathlib.Core.Bool.{false}
 use mathlib.Core.List.{List}
 use native.Mathlib.Omega.{arith}
 use borrow.Author.Needs.{needs}
-use lib.ListN.{length, getD, take, drop, length-set}
+use denote.Ref.{now}
+use lib.ListN.{length, take, drop, length-set}
 use lib.IntN.{ℤ}
 use lib.Signed.{_≤ℤ_}
 use Rattle.exact.specs.Size.{Within}
@@ -14,6 +15,7 @@ use Rattle.plane.specs.declared.Vec2.{Vec2}
 use Rattle.path.specs.declared.Station.{Station}
 use Rattle.reaches.specs.declared.Cell.{Cell}
 use Rattle.reaches.specs.Cells.{Reaches, reachRuns, cellAt, storeCell}
+use Rattle.reaches.specs.Coordinates.{pointsOf}
 use Rattle.reaches.specs.Crossing.{someCrosses, crossedStation}
 use Rattle.reaches.proofs.CellLaws.{SameLengths}
 use Rattle.reaches.proofs.CrossingLaws.{left-so}
@@ -22,12 +24,12 @@ use Rattle.reaches.proofs.cross_near_station.Statement.{statement}
 use Rattle.reaches.proofs.cross_near_station.Tie as tie
 
 abbrev Inv-loop : tie.InvT-loop
-Inv-loop i s count beside left₀ right₀ marks₀ olds news k₀ left right marks k =
-    (k ≤ count / 2) × (count ≤ length olds) × (count ≤ length news) × (left ≡ left₀) × (right ≡ right₀) × (marks ≡ marks₀)
-    × (someCrosses s (drop (2 * k) (take count olds)) (drop (2 * k) (take count news)) ≡ someCrosses s (take count olds) (take count news))
+Inv-loop i s count olds news beside left₀ right₀ marks₀ k₀ left right marks k =
+    (k ≤ count / 2) × (left ≡ left₀) × (right ≡ right₀) × (marks ≡ marks₀)
+    × (someCrosses s (drop (2 * k) (take count (pointsOf olds))) (drop (2 * k) (take count (pointsOf news))) ≡ someCrosses s (take count (pointsOf olds)) (take count (pointsOf news)))
 
 abbrev μ-loop : tie.MeasureT-loop
-μ-loop i s count beside left₀ right₀ marks₀ olds news k₀ left right marks k = count / 2 - k
+μ-loop i s count olds news beside left₀ right₀ marks₀ k₀ left right marks k = count / 2 - k
 
 -- the runs at the entry
 abbrev runs : tie.Start Inv-loop μ-loop → Reaches
@@ -51,85 +53,55 @@ right-there : (i : tie.In-loop Inv-loop μ-loop) → 2 * i .before .loop .k + 1 
 right-there i = let h = i .loop-test .taken in omega (arith, h, start (i .before) .pre .even)
 
 loop-holds : tie.Need-loop-holds Inv-loop μ-loop
-loop-holds c = (omega arith, search needs, search needs, refl, refl, refl, refl)
-
-mul-p : tie.Need-mul-p Inv-loop μ-loop
-mul-p c = search needs
-
-mul-old : tie.Need-mul-old Inv-loop μ-loop
-mul-old c = search needs
-
-array-copy-out-old : tie.Need-array-copy-out-old Inv-loop μ-loop
-array-copy-out-old c = search needs
-
-mul-new : tie.Need-mul-new Inv-loop μ-loop
-mul-new c = search needs
-
-array-copy-out-new : tie.Need-array-copy-out-new Inv-loop μ-loop
-array-copy-out-new c = search needs
-
-add-other : tie.Need-add-other Inv-loop μ-loop
-add-other c = search needs
-
-mul-other : tie.Need-mul-other Inv-loop μ-loop
-mul-other c = search needs
-
-array-copy-out-other : tie.Need-array-copy-out-other Inv-loop μ-loop
-array-copy-out-other c = search needs
-
-add-moved : tie.Need-add-moved Inv-loop μ-loop
-add-moved c = search needs
-
-mul-moved : tie.Need-mul-moved Inv-loop μ-loop
-mul-moved c = search needs
-
-array-copy-out-moved : tie.Need-array-copy-out-moved Inv-loop μ-loop
-array-copy-out-moved c = search needs
+loop-holds c = (omega arith, refl, refl, refl, refl)
 
 pair-crosses-requires : tie.Need-pair-crosses-requires Inv-loop μ-loop
 pair-crosses-requires c κs =
-    let i = c .before .before .before .before in
-    let k = i .loop-test .taken in
-    let s = start (i .before) in
+    let k = c .loop-test .taken in
+    let s = start (c .before) in
+    let r = right-there c in
     record {
-      left = s .pre .moves .move _ (left-there i);
-      right = s .pre .moves .move _ (right-there i);
-      newNear = at-most (exact-beside s) (s .pre .pairs .new _ k);
-      oldRightNear = at-most (exact-beside s) (s .pre .pairs .oldRight _ k);
-      newRightNear = at-most (exact-beside s) (s .pre .pairs .newRight _ k);
-      size = subst (Within 640000000) (sym (exact-beside s)) (s .pre .pairs .size);
+      room = record { place = omega (arith, r, s .pre .moves .room .most) };
+      moves = record {
+        left = s .pre .moves .move _ (left-there c);
+        right = s .pre .moves .move _ r;
+        newNear = at-most (exact-beside s) (s .pre .pairs .new _ k);
+        oldRightNear = at-most (exact-beside s) (s .pre .pairs .oldRight _ k);
+        newRightNear = at-most (exact-beside s) (s .pre .pairs .newRight _ k);
+        size = subst (Within 640000000) (sym (exact-beside s)) (s .pre .pairs .size);
+      };
     }
 
 enter-station-requires : tie.Need-enter-station-requires Inv-loop μ-loop
 enter-station-requires c κs =
-    let l = c .before .before .before .before .before .before .before .before .before .before in
+    let l = c .before .before .before .before .before .before in
     let s = start l in
     let v = l .loop .inv in
     record {
       moves = s .pre .moves;
-      left = subst (λ (xs : List ℤ). s .args .i < length xs) (sym (v .3)) (s .pre .left);
-      right = subst (λ (xs : List ℤ). s .args .i < length xs) (sym (v .4)) (s .pre .right);
-      marks = subst (λ (xs : List ℕ). s .args .i < length xs) (sym (v .5)) (s .pre .marks);
+      left = subst (λ (xs : List ℤ). s .args .i < length xs) (sym (v .1)) (s .pre .left);
+      right = subst (λ (xs : List ℤ). s .args .i < length xs) (sym (v .2)) (s .pre .right);
+      marks = subst (λ (xs : List ℕ). s .args .i < length xs) (sym (v .3)) (s .pre .marks);
     }
 
 -- one crosses: the runs are as the points leave them
-entered : (e : tie.After-enter-station Inv-loop μ-loop) → let s = start (e .before .before .before .before .before .before .before .before .before .before .before) in
+entered : (e : tie.After-enter-station Inv-loop μ-loop) → let s = start (e .before .before .before .before .before .before .before) in
     let x = e .enter-station .last .1 .1 .1 .1 .1 in
-    reachRuns (x .0) (x .1 .0) (x .1 .1 .0) ≡ crossedStation (s .args .i) (s .args .s) (take (s .args .count) (s .args .t4)) (take (s .args .count) (s .args .t5)) (runs s)
+    reachRuns (x .0) (x .1 .0) (x .1 .1 .0) ≡ crossedStation (s .args .i) (s .args .s) (take (s .args .count) (pointsOf (now (s .args .olds)))) (take (s .args .count) (pointsOf (now (s .args .news)))) (runs s)
 entered e =
-    let l = e .before .before .before .before .before .before .before .before .before .before .before in
+    let l = e .before .before .before .before .before .before .before in
     let a = start l .args in
-    let p = l .loop .inv .3 in
-    let q = l .loop .inv .4 in
-    let m = l .loop .inv .5 in
-    e .enter-station .ensures ∙ (λ j. crossedStation (a .i) (a .s) (take (a .count) (a .t4)) (take (a .count) (a .t5)) (reachRuns (p j) (q j) (m j)))
+    let p = l .loop .inv .1 in
+    let q = l .loop .inv .2 in
+    let m = l .loop .inv .3 in
+    e .enter-station .ensures ∙ (λ j. crossedStation (a .i) (a .s) (take (a .count) (pointsOf (now (a .olds)))) (take (a .count) (pointsOf (now (a .news)))) (reachRuns (p j) (q j) (m j)))
 
 stored : (i : ℕ) (c : Cell) (r : Reaches) → SameLengths (storeCell i c r) r
 stored i c r = record { left = length-set (r .left) i (c .left); right = length-set (r .right) i (c .right); marks = length-set (r .marks) i (c .mark) }
 
-lengths : (e : tie.After-enter-station Inv-loop μ-loop) → let x = e .enter-station .last .1 .1 .1 .1 .1 in SameLengths (reachRuns (x .0) (x .1 .0) (x .1 .1 .0)) (runs (start (e .before .before .before .before .before .before .before .before .before .before .before)))
+lengths : (e : tie.After-enter-station Inv-loop μ-loop) → let x = e .enter-station .last .1 .1 .1 .1 .1 in SameLengths (reachRuns (x .0) (x .1 .0) (x .1 .1 .0)) (runs (start (e .before .before .before .before .before .before .before)))
 lengths e =
-    let s = start (e .before .before .before .before .before .before .before .before .before .before .before) in
+    let s = start (e .before .before .before .before .before .before .before) in
     subst (λ (x : Reaches). SameLengths x (runs s)) (sym (entered e)) (stored (s .args .i) _ (runs s))
 
 same-length : tie.Need-same-length Inv-loop μ-loop
@@ -152,31 +124,37 @@ loop-less c = search needs
 
 loop-again : tie.Need-loop-again Inv-loop μ-loop
 loop-again c =
-    let l = c .before .before .before .before .before .before .before in
-    let a = start l .args in
+    let l = c .before .before .before in
+    let s = start l in
+    let a = s .args in
     let v = l .loop .inv in
-    let q = c .before in
-    (search needs, v .1, v .2, v .3, v .4, v .5, pair-passed (a .count) (l .loop .k) (a .s) (a .t4) (a .t5) (v .1) (v .2) (right-there (c .before .before .before .before .before .before)) (sym (q .pair-crosses .ensures) ∙ c .if1 .left) ∙ v .6)
+    let m = s .pre .moves in (
+      search needs,
+      v .1,
+      v .2,
+      v .3,
+      pair-passed (a .count) (l .loop .k) (a .s) (pointsOf (now (a .olds))) (pointsOf (now (a .news))) (m .allOld) (m .allNew) (right-there (c .before .before)) (sym (c .before .pair-crosses .ensures) ∙ c .if1 .left) ∙ v .4,
+    )
 
 same-length-4 : tie.Need-same-length-4 Inv-loop μ-loop
-same-length-4 c = ap length (c .before .loop .inv .3)
+same-length-4 c = ap length (c .before .loop .inv .1)
 
 same-length-5 : tie.Need-same-length-5 Inv-loop μ-loop
-same-length-5 c = ap length (c .before .loop .inv .4)
+same-length-5 c = ap length (c .before .loop .inv .2)
 
 same-length-6 : tie.Need-same-length-6 Inv-loop μ-loop
-same-length-6 c = ap length (c .before .loop .inv .5)
+same-length-6 c = ap length (c .before .loop .inv .3)
 
 returns-2 : tie.Need-returns-2 Inv-loop μ-loop
 returns-2 c =
     let l = c .before in
     let a = start l .args in
     let v = l .loop .inv in
-    let p = v .3 in
-    let q = v .4 in
-    let m = v .5 in
+    let p = v .1 in
+    let q = v .2 in
+    let m = v .3 in
     let done : a .count ≤ 2 * l .loop .k = omega (arith, start l .pre .even, c .loop-test .left) in
-    (λ j. reachRuns (p j) (q j) (m j)) ∙ left-so (a .i) (a .s) (take (a .count) (a .t4)) (take (a .count) (a .t5)) (runs (start l)) (sym (v .6) ∙ pairs-end (a .count) (l .loop .k) (a .s) (a .t4) (a .t5) done)
+    (λ j. reachRuns (p j) (q j) (m j)) ∙ left-so (a .i) (a .s) (take (a .count) (pointsOf (now (a .olds)))) (take (a .count) (pointsOf (now (a .news)))) (runs (start l)) (sym (v .4) ∙ pairs-end (a .count) (l .loop .k) (a .s) (pointsOf (now (a .olds))) (pointsOf (now (a .news))) done)
 
 pub cross-near-station-spec : {M : Type 1} → statement M
 cross-near-station-spec =
@@ -185,17 +163,6 @@ cross-near-station-spec =
     Inv-loop
     μ-loop
     loop-holds
-    mul-p
-    mul-old
-    array-copy-out-old
-    mul-new
-    array-copy-out-new
-    add-other
-    mul-other
-    array-copy-out-other
-    add-moved
-    mul-moved
-    array-copy-out-moved
     pair-crosses-requires
     enter-station-requires
     same-length

@@ -2,10 +2,12 @@
 use Prim.Native.Nat.{_/_}
 use mathlib.Core.Path.{_≡_, sym, _∙_, ap, subst}
 use borrow.Author.Needs.{needs}
+use denote.Ref.{now}
 use lib.ListN.{take}
 use Rattle.exact.specs.Size.{Within}
 use Rattle.exact.proofs.Machine.{reread}
 use Rattle.reaches.specs.Cells.{reachRuns}
+use Rattle.reaches.specs.Coordinates.{pointsOf}
 use Rattle.reaches.specs.Far.{farOff, PairSpread}
 use Rattle.reaches.proofs.CrossingLaws.{left-so}
 use Rattle.reaches.proofs.FarLaws.{far-none}
@@ -27,8 +29,8 @@ returns c =
     let s = c .before .before .before in
     let a = s .args in
     let far = ap (farOff (a .s) (a .from)) (sym (exact-near s)) ∙ sym (c .before .far-off .ensures) ∙ c .if1 .taken in
-    left-so (a .i) (a .s) (take (a .count) (a .olds)) (take (a .count) (a .news)) (reachRuns (a .left .now) (a .right .now) (a .marks .now))
-    (far-none (a .s) (s .pre .place .station) (a .from) (a .count) (a .olds) (a .news) (a .near) (s .pre .spread) far)
+    left-so (a .i) (a .s) (take (a .count) (pointsOf (now (a .olds)))) (take (a .count) (pointsOf (now (a .news)))) (reachRuns (a .left .now) (a .right .now) (a .marks .now))
+    (far-none (a .s) (s .pre .place .station) (a .from) (a .count) (pointsOf (now (a .olds))) (pointsOf (now (a .news))) (a .near) (s .pre .spread) far)
 
 cross-near-station-requires : tie.Need-cross-near-station-requires
 cross-near-station-requires c κs =
@@ -37,7 +39,7 @@ cross-near-station-requires c κs =
     record {
       moves = y .moves;
       even = y .even;
-      pairs = subst (PairSpread (s .args .count / 2) (s .args .olds) (s .args .news)) (sym (exact-beside s)) (y .pairs);
+      pairs = subst (PairSpread (s .args .count / 2) (pointsOf (now (s .args .olds))) (pointsOf (now (s .args .news)))) (sym (exact-beside s)) (y .pairs);
       left = y .left;
       right = y .right;
       marks = y .marks;

@@ -1,10 +1,12 @@
 -- `reaches::enter_station` meets its contract: what the points make of the cell is stored.
 use mathlib.Core.Path.{_≡_, _∙_, ap}
+use denote.Ref.{now}
 use lib.ListN.{getD, take, set}
 use lib.IntN.{pos}
 use Rattle.exact.proofs.Machine.{reread32}
 use Rattle.reaches.specs.declared.Cell.{Cell}
 use Rattle.reaches.specs.Cells.{reachRuns, cellAt}
+use Rattle.reaches.specs.Coordinates.{pointsOf}
 use Rattle.reaches.specs.Crossing.{crossedFrom}
 use borrow.Author.Needs.{needs}
 use Rattle.reaches.proofs.enter_station.Statement.{statement}
@@ -63,12 +65,12 @@ module _ (d : tie.After-crossed-by-all) where
   abbrev s : tie.Start
   s = d .before .before .before .before .before
 
-  next : let a = s .args in d .crossed-by-all .result ≡ crossedFrom 0 (a .s) (take (a .count) (a .olds)) (take (a .count) (a .news)) (cellAt (a .i) (reachRuns (a .left .now) (a .right .now) (a .marks .now)))
+  next : let a = s .args in d .crossed-by-all .result ≡ crossedFrom 0 (a .s) (take (a .count) (pointsOf (now (a .olds)))) (take (a .count) (pointsOf (now (a .news)))) (cellAt (a .i) (reachRuns (a .left .now) (a .right .now) (a .marks .now)))
   next =
       let a = s .args in
       let l : reread32 (getD (a .left .now) (a .i) (pos 0)) ≡ getD (a .left .now) (a .i) (pos 0) = search needs in
       let r : reread32 (getD (a .right .now) (a .i) (pos 0)) ≡ getD (a .right .now) (a .i) (pos 0) = search needs in
-      d .crossed-by-all .ensures ∙ ap (crossedFrom 0 (a .s) (take (a .count) (a .olds)) (take (a .count) (a .news))) (λ i. record { left = l i; right = r i; mark = getD (a .marks .now) (a .i) 0 })
+      d .crossed-by-all .ensures ∙ ap (crossedFrom 0 (a .s) (take (a .count) (pointsOf (now (a .olds)))) (take (a .count) (pointsOf (now (a .news))))) (λ i. record { left = l i; right = r i; mark = getD (a .marks .now) (a .i) 0 })
 
 returns : tie.Need-returns
 returns c =

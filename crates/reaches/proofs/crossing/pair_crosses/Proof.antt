@@ -1,46 +1,52 @@
 -- `reaches::crossing::pair_crosses` meets its contract.
-use mathlib.Core.Path.{_≡_, refl, sym, _∙_, ap, subst}
-use Rattle.exact.specs.Size.{Within}
-use Rattle.exact.proofs.Machine.{reread}
-use Rattle.reaches.specs.Far.{farOff}
-use Rattle.reaches.proofs.FarLaws.{far-pair}
+use mathlib.Core.Path.{_≡_}
 use borrow.Author.Needs.{needs}
+use Rattle.exact.proofs.Machine.{reread}
 use Rattle.reaches.proofs.crossing.pair_crosses.Statement.{statement}
 use Rattle.reaches.proofs.crossing.pair_crosses.Tie as tie
 
--- how far the pair spreads, read again
-exact-near : (s : tie.Start) → reread (s .args .near) ≡ s .args .near
-exact-near s = search needs
+mul-p : tie.Need-mul-p
+mul-p c = search needs
 
-far-off-requires : tie.Need-far-off-requires
-far-off-requires c κs = record { point = record { station = c .pre .left .station; point = c .pre .left .from }; near = subst (Within 640000000) (sym (exact-near c)) (c .pre .size) }
+point-at-requires : tie.Need-point-at-requires
+point-at-requires c κs = search needs
+
+point-at-requires-2 : tie.Need-point-at-requires-2
+point-at-requires-2 c κs = search needs
+
+add-point-at : tie.Need-add-point-at
+add-point-at c = search needs
+
+point-at-requires-3 : tie.Need-point-at-requires-3
+point-at-requires-3 c κs = search needs
+
+add-point-at-2 : tie.Need-add-point-at-2
+add-point-at-2 c = search needs
+
+point-at-requires-4 : tie.Need-point-at-requires-4
+point-at-requires-4 c κs = search needs
+
+either-crosses-requires : tie.Need-either-crosses-requires
+either-crosses-requires c κs =
+    let s = c .before .before .before .before in
+    let near : reread (s .args .near) ≡ s .args .near = search needs in
+    rw (near, c .before .before .before .point-at .ensures, c .before .before .point-at2 .ensures, c .before .point-at3 .ensures, c .point-at4 .ensures) (s .pre .moves)
 
 returns : tie.Need-returns
 returns c =
-    let s = c .before .before in
-    let a = s .args in
-    let far = ap (farOff (a .s) (a .old)) (sym (exact-near s)) ∙ sym (c .before .far-off .ensures) ∙ c .if1 .taken in
-    sym (far-pair (a .s) (s .pre .left .station) (a .near) (a .old) (a .new) (a .other) (a .moved) far (s .pre .newNear) (s .pre .oldRightNear) (s .pre .newRightNear))
-
-crosses-station-requires : tie.Need-crosses-station-requires
-crosses-station-requires c κs = c .before .before .pre .left
-
-returns-2 : tie.Need-returns-2
-returns-2 c = rw (sym (c .before .crosses-station .ensures) ∙ c .if2 .taken)
-
-crosses-station-requires-2 : tie.Need-crosses-station-requires-2
-crosses-station-requires-2 c κs = c .before .before .before .before .pre .right
-
-returns-3 : tie.Need-returns-3
-returns-3 c = rw (sym (c .before .before .crosses-station .ensures) ∙ c .before .if2 .left) (c .crosses-station2 .ensures)
+    let p = c .before in
+    rw (p .before .before .before .point-at .ensures, p .before .before .point-at2 .ensures, p .before .point-at3 .ensures, p .point-at4 .ensures) at (c .either-crosses .ensures)
 
 pub pair-crosses-spec : {M : Type 1} → statement M
 pair-crosses-spec =
     tie.close
     (tie.spec
-    far-off-requires
-    returns
-    crosses-station-requires
-    returns-2
-    crosses-station-requires-2
-    returns-3)
+    mul-p
+    point-at-requires
+    point-at-requires-2
+    add-point-at
+    point-at-requires-3
+    add-point-at-2
+    point-at-requires-4
+    either-crosses-requires
+    returns)

@@ -1,5 +1,8 @@
 // The table of the points of a rig: what each is measured from, how far ahead of it and how far beside it.
 use job::Side;
+ghost use mathlib.Core.Path.{_≡_};
+ghost use Rattle.marks.specs.Requires.{HasRoom};
+ghost use Rattle.point_table.specs.Table.{rowAt};
 
 // What a point is measured from: the front point or the rear axle of a unit, counted from 0, or the rear axle of the last unit.
 pub enum Base {
@@ -152,3 +155,11 @@ pub const ROWS: [Row; marks::POINT_CAPACITY] = [
         width: Width::Corner,
     },
 ];
+
+// The row of point k.
+pub fn row_of(k: usize) -> Row
+    requires { ⌜ HasRoom k ⌝ }
+    ensures { λ r. ⌜ r ≡ rowAt k ⌝ }
+{
+    ROWS[k]
+}
