@@ -1,4 +1,5 @@
 -- What the functions of this crate require can be met. Assumes nothing.
+use Prim.Native.Nat.{_-_}
 use native.Mathlib.Omega.{arith}
 use Rattle.marks.specs.Requires.{HasPlace, HavePlaces, HasRoom, Counted}
 use Rattle.marks.specs.Count.{pointCapacity}
@@ -10,7 +11,7 @@ has-place = record { place = omega arith }
 have-places : HavePlaces markWidth
 have-places = record { places = omega arith }
 
-has-room : HasRoom 19
+has-room : HasRoom (pointCapacity - 1)
 has-room = record { place = omega arith }
 
 counted : Counted pointCapacity

@@ -33,7 +33,7 @@ pub struct Row {
 }
 
 // The points by number: a rig has as many of them as `marks::point_count` says.
-pub const ROWS: [Row; marks::POINT_CAPACITY] = [
+const ROWS: [Row; marks::POINT_CAPACITY] = [
     Row {
         base: Base::Front(0),
         along: Along::Corner,
