@@ -10,3 +10,4 @@ pub mod Halves
 pub mod Division
 pub mod Witnesses
 pub mod Equations
+pub mod Fractions
