@@ -1,0 +1,4 @@
+pub mod Bytes
+pub mod Answers
+pub mod Tick
+pub mod Worked
