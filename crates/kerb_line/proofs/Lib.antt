@@ -1,0 +1,5 @@
+pub mod KerbLaws
+pub mod LowestLaws
+pub mod BoundsLaws
+pub mod AlongLaws
+pub mod Witnesses

@@ -1,0 +1,4 @@
+pub mod Kerb
+pub mod Contact
+pub mod Requires
+pub mod Inner
