@@ -128,19 +128,19 @@ number-local = record {
         go true q = q
         go false q = absurd (let z : _≡_ {A = ℕ} 0 1 = cc in omega arith)
 
--- a reader's last word, with what its test showed
-tested : {A : Type 0} {r : Reader A} (fault : ℕ) (allowed : A → Bool) → Local r 5 (λ x. Unit {0}) → Local (here >>= (λ at. r >>= (λ v. unless (allowed v) fault at (return v)))) 5 (λ v. allowed v ≡ true)
-tested {A} {r} fault allowed l = record {
-  same = λ m s t at g k. ap (λ (x : Read A). andThen x (λ v e. pick (allowed v) (got v e) (refused fault at))) (l .same m s t at g k);
+-- a reader's last word in another form, with what its test showed
+pub tested : {A B : Type 0} {r : Reader A} (w : ℕ) (form : A → B) (fault : ℕ) (allowed : B → Bool) → Local r w (λ x. Unit {0}) → Local (here >>= (λ at. r >>= (λ v. unless (allowed (form v)) fault at (return (form v))))) w (λ v. allowed v ≡ true)
+tested {A} {B} {r} w form fault allowed l = record {
+  same = λ m s t at g k. ap (λ (x : Read A). andThen x (λ v e. pick (allowed (form v)) (got (form v) e) (refused fault at))) (l .same m s t at g k);
   ends = λ s at v e q.
-      let f = first (r s at) (λ a x. unless (allowed a) fault at (return a) s x) v e q in
-      let c = chosen (allowed (f .value)) refl (f .value) (f .next) fault at v e (f .then) in
+      let f = first (r s at) (λ a x. unless (allowed (form a)) fault at (return (form a)) s x) v e q in
+      let c = chosen (allowed (form (f .value))) refl (form (f .value)) (f .next) fault at v e (f .then) in
       (omega (arith, l .ends s at (f .value) (f .next) (f .reads) .0, c .2), ap allowed (sym (c .1)) ∙ c .0);
 }
 
 pub field-local : (fault : ℕ) (allowed : ℕ → Bool) → Local (field fault allowed) 5 (λ v. allowed v ≡ true)
 unfolding field
-field-local fault allowed = tested fault allowed number-local
+field-local fault allowed = tested 5 (λ v. v) fault allowed number-local
 
 pub signed-local : Local signedNumber 5 (λ x. Unit {0})
 unfolding signedNumber
@@ -148,4 +148,4 @@ signed-local = after 5 0 number-local (λ v _. returned (signedOf v))
 
 pub signed-field-local : (fault : ℕ) (allowed : ℤ → Bool) → Local (signedField fault allowed) 5 (λ z. allowed z ≡ true)
 unfolding signedField
-signed-field-local fault allowed = tested fault allowed signed-local
+signed-field-local fault allowed = tested 5 (λ z. z) fault allowed signed-local
