@@ -44,12 +44,12 @@ module _ (asked : ℕ) (path : PathRuns) where
   turnsUntil (suc n) w r = ifMade (outcomeOf (next w r .result .answer)) (next w r ∷ turnsUntil n (next w r .result .walk) (next w r .after)) (next w r ∷ [])
 
   -- both ways that it goes on
-  by-answer : (P : List Turn → Type 0) (o : Outcome) (a b : List Turn) → (o ≡ made → P a) → ((o ≡ made → ⊥) → P b) → P (ifMade o a b)
+  pub by-answer : (P : List Turn → Type 0) (o : Outcome) (a b : List Turn) → (o ≡ made → P a) → ((o ≡ made → ⊥) → P b) → P (ifMade o a b)
   by-answer P made a b h k = h refl
   by-answer P (refused m) a b h k = k (refused-not-made m)
   by-answer P (refusedAt m u) a b h k = k (unit-not-made m u)
 
-  until-chain : (n : ℕ) (w : Walk) (r : Reaches) → Chain w (turnsUntil n w r)
+  pub until-chain : (n : ℕ) (w : Walk) (r : Reaches) → Chain w (turnsUntil n w r)
   unfolding turnsUntil Chain
   until-chain zero w r = (turn-ensured w (callOf asked path r) r, tt)
   until-chain (suc n) w r =
@@ -57,7 +57,7 @@ module _ (asked : ℕ) (path : PathRuns) where
       let k = turn-ensured w (callOf asked path r) r in
       by-answer (Chain w) (outcomeOf (t .result .answer)) (t ∷ turnsUntil n (t .result .walk) (t .after)) (t ∷ []) (λ m. (k, until-chain n (t .result .walk) (t .after))) (λ m. (k, tt))
 
-  until-handed : (n : ℕ) (w : Walk) (r : Reaches) → Handed asked path r (turnsUntil n w r)
+  pub until-handed : (n : ℕ) (w : Walk) (r : Reaches) → Handed asked path r (turnsUntil n w r)
   unfolding turnsUntil Handed
   until-handed zero w r = (refl, refl, tt)
   until-handed (suc n) w r =
@@ -70,7 +70,7 @@ module _ (asked : ℕ) (path : PathRuns) where
   made-before t [] m h = absurd h
   made-before t (u ∷ ts) m h = (m, h)
 
-  until-refused : (n : ℕ) (w : Walk) (r : Reaches) → Going (view w) (callOf asked path r) → asked ≤ w .station + 1 + n → UntilRefused (turnsUntil n w r)
+  pub until-refused : (n : ℕ) (w : Walk) (r : Reaches) → Going (view w) (callOf asked path r) → asked ≤ w .station + 1 + n → UntilRefused (turnsUntil n w r)
   unfolding turnsUntil UntilRefused
   until-refused zero w r g h = λ m. refused-not-made 25 (sym (refused-25 asked path w r g (next w r) (turn-ensured w (callOf asked path r) r) (omega arith)) ∙ m)
   until-refused (suc n) w r g h =

@@ -1,0 +1,5 @@
+pub mod ContactLaws
+pub mod StepLaws
+pub mod Following
+pub mod CallsMade
+pub mod FirstLaws

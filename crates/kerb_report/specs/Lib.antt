@@ -1,0 +1,4 @@
+pub mod Report
+pub mod Ranges
+pub mod Looking
+pub mod Requires
