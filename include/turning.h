@@ -35,13 +35,16 @@ extern "C" {
 enum {
     TURNING_SWEEP_ENTRIES = 8,
     TURNING_SETTINGS_ENTRIES = 7,
+    TURNING_KERB_TICKS_ENTRIES = 1,
+    TURNING_KERB_TOUCH_ENTRIES = 3,
     TURNING_PATH_TURN_ENTRIES = 4,
     TURNING_UNIT_TURN_ENTRIES = 2
 };
 
-/* What turning_sweep, turning_run and turning_settings answer, taken apart: the refusal's number (0 for
- * none); beside 1 to 10 the byte where the field starts; beside 22 and 23, which turning_settings never
- * answers, the unit and the step, both counted from 1. */
+/* What turning_sweep, turning_run, turning_settings, turning_kerb_ticks and turning_kerb_touch answer, taken
+ * apart: the refusal's number (0 for none); beside 1 to 10, 12 and 13 the byte where the field starts; beside
+ * 22 and 23, which turning_settings and turning_kerb_ticks never answer, the unit and the step, both counted
+ * from 1. */
 #define TURNING_NUMBER(answered) ((uint32_t)(answered) & 255u)
 #define TURNING_BYTE(answered) ((uint32_t)(answered) >> 8)
 #define TURNING_UNIT(answered) (((uint32_t)(answered) >> 8) & 255u)
@@ -92,6 +95,38 @@ uint32_t turning_settings(const uint8_t *job, size_t job_len,
                           int32_t *gxs, size_t gxs_len, int32_t *gys, size_t gys_len,
                           int32_t *left, size_t left_len, int32_t *right, size_t right_len,
                           uint32_t *marks, size_t marks_len, int64_t *answer, size_t answer_len);
+
+/* Reads a kerb from OGC Well-Known Binary, little-endian: the mark 01, the type in 4 bytes, 1 for a point or 2
+ * for a line string, after which a line has its number of vertices in 4 bytes, 2 to 500, then x and y of each
+ * vertex in metres, floats of 8 bytes, at most 15,000 in size. The ticks of a coordinate are its product by
+ * 10,000, rounded once as a float, then taken to the nearest whole number, halves away from zero. 500 entries
+ * in each of the two runs have room for every kerb; those past the vertices stay.
+ *   0                                   read: the number of vertices, 1 for a point; their ticks stand at the
+ *                                       start of both runs
+ *   12 + 256 * byte                     bytes are missing or left over, or the mark, the type or the number of
+ *                                       vertices is wrong: nothing is written
+ *   13 + 256 * byte                     a coordinate is not finite or too large: nothing is written
+ *   21                                  the answer run has no entry, or, tested last, one of the two runs fewer
+ *                                       than the kerb has vertices: nothing is written */
+uint32_t turning_kerb_ticks(const uint8_t *geometry, size_t geometry_len,
+                            int32_t *xs, size_t xs_len, int32_t *ys, size_t ys_len,
+                            int64_t *answer, size_t answer_len);
+
+/* Walks the job beside the kerb whose vertices stand at the start of xs and ys, in ticks, each coordinate at
+ * most 150,000,000 in size: its segments lead from each vertex to the next, a single vertex being a segment of
+ * no length. Tells the first step, then the lowest point, whose straight move from its old place to its new
+ * one touches or crosses a segment; ends count, of the moves as of the segments. Step k leads to station k.
+ * Neither run is written.
+ *   0                                   1, the step and the point, or three zeros where the last station is
+ *                                       reached and no point has touched the kerb
+ *   1 to 10 + 256 * byte                the job is refused
+ *   21                                  the answer run has fewer than 3 entries, or, tested after the job, the
+ *                                       vertices are not 1 to 500 or one of the two runs has fewer entries
+ *   26                                  a coordinate of the kerb is too large, tested last, before the walk
+ *   22 or 23 + 256 * unit + 65536 * step   a step is refused before any touch */
+uint32_t turning_kerb_touch(const uint8_t *job, size_t job_len, size_t vertices,
+                            const int32_t *xs, size_t xs_len, const int32_t *ys, size_t ys_len,
+                            int64_t *answer, size_t answer_len);
 
 /* Turns the path heading (gx, gy) by a step of s ticks on the radius r: 0 straight, positive right.
  *   0         heading x, heading y, move x, move y

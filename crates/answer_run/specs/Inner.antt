@@ -7,7 +7,7 @@ pub record Room (at k n : ℕ) : Type 0 where
 
 -- a byte, or a unit and a step, that one number holds beside a refusal's own
 pub record ByteFits (p : ℕ) : Type 0 where
-  pub byte : p ≤ 1024
+  pub byte : p ≤ 16777215
 
 pub record UnitFits (u k : ℕ) : Type 0 where
   pub unit : u ≤ 4

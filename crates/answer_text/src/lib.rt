@@ -23,7 +23,7 @@ pub struct Text {
     pub length: usize,
 }
 
-fn put_words(t: Text, words: &[u8]) -> Text
+pub fn put_words(t: Text, words: &[u8]) -> Text
     requires { ⌜ Space t (length (now words)) ⌝ }
     ensures { λ r. ⌜ Line t (now (words .entry)) (length (now (words .entry))) r ⌝ }
 {
@@ -34,7 +34,7 @@ fn put_words(t: Text, words: &[u8]) -> Text
 }
 
 // Words, and a number after them, which takes 20 bytes at most.
-fn put_number(t: Text, words: &[u8], n: u64) -> Text
+pub fn put_number(t: Text, words: &[u8], n: u64) -> Text
     requires { ⌜ Space t (length (now words) + 20) ⌝ }
     ensures { λ r. ⌜ Line t (now (words .entry) ++ decimal n) (length (now (words .entry)) + 20) r ⌝ }
 {
@@ -100,7 +100,7 @@ fn put_front(t: Text, v: Vec2) -> Text
     put_words(b, b"\n")
 }
 
-fn empty() -> Text
+pub fn empty() -> Text
     ensures { λ r. ⌜ r ≡ nothing ⌝ }
 {
     Text {
@@ -120,7 +120,7 @@ fn finished_text(f: Finish) -> Text
     put_front(b, front)
 }
 
-fn refused_text(number: u8, byte: usize) -> Text
+pub fn refused_text(number: u8, byte: usize) -> Text
     ensures { λ r. ⌜ Line nothing (refusedLine number byte) 53 r ⌝ }
 {
     let a = put_number(empty(), b"refused ", number as u64);
@@ -128,7 +128,7 @@ fn refused_text(number: u8, byte: usize) -> Text
     put_words(b, b"\n")
 }
 
-fn stopped_text(number: u8, unit: usize, step: usize) -> Text
+pub fn stopped_text(number: u8, unit: usize, step: usize) -> Text
     ensures { λ r. ⌜ Line nothing (stoppedLine number unit step) 81 r ⌝ }
 {
     let a = put_number(empty(), b"refused ", number as u64);

@@ -22,10 +22,10 @@ use Rattle.entries.specs.Inner.{SweptFits}
 use Rattle.turning.specs.Calls.{numberIn, byteIn, unitIn, stepIn, ByteTold, TakenApart, SweepCalled, RunCalled}
 
 -- a number below 256, with a byte, or with a unit below 256 and a step
-byte-apart : (n p : ℕ) → n < 256 → (numberIn (atByte n p) ≡ n) × (byteIn (atByte n p) ≡ p)
+pub byte-apart : (n p : ℕ) → n < 256 → (numberIn (atByte n p) ≡ n) × (byteIn (atByte n p) ≡ p)
 byte-apart n p h = (omega arith, omega arith)
 
-unit-apart : (n u k : ℕ) → n < 256 → u < 256 → (numberIn (atUnit n u k) ≡ n) × (unitIn (atUnit n u k) ≡ u) × (stepIn (atUnit n u k) ≡ k)
+pub unit-apart : (n u k : ℕ) → n < 256 → u < 256 → (numberIn (atUnit n u k) ≡ n) × (unitIn (atUnit n u k) ≡ u) × (stepIn (atUnit n u k) ≡ k)
 unit-apart n u k h g = (omega arith, omega arith, omega arith)
 
 module _ (s : List ℕ) where
@@ -45,7 +45,7 @@ module _ (s : List ℕ) where
   pub fits : (a : Swept) → IntoSo s a → SweptFits a
   fits (S.Finished f) h = h
   fits (S.Stopped n u k) h = record { unit = h .unit .1; step = h .step .1 }
-  fits (S.Refused n p) (inl h) = record { byte = h .near }
+  fits (S.Refused n p) (inl h) = record { byte = omega (arith, h .near) }
   fits (S.Refused n p) (inr h) = record { byte = omega (arith, h .1) }
 
   module _ (before : List ℤ) where

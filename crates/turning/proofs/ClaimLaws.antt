@@ -31,8 +31,17 @@ use Rattle.answer_run.proofs.BareLaws.{path-bare, unit-bare}
 use Rattle.entries.specs.Answers.{sweepTold}
 use Rattle.entries.specs.Lists.{settingsTold}
 use Rattle.entries.proofs.BareLaws.{sweep-bare, settings-bare}
+use Rattle.kerb_line.specs.Kerb.{KerbRuns}
+use Rattle.kerb_reader.specs.declared.Survey.{Survey}
+use Rattle.kerb_reader.specs.declared.KerbRead.the-variants as K
+use Rattle.kerb_reader.specs.Geometry.{verticesOf, readGeometry}
+use Rattle.kerb_reader.specs.Ticks.{roomIn, eastTicks, northTicks, kerbAnswer, ticksIn}
+use Rattle.kerbed.specs.Kerbed.{kerbedTicks}
+use Rattle.kerb_told.specs.Entries.{ticksTold, touchTold}
+use Rattle.kerb_told.proofs.BareLaws.{ticks-bare, touch-bare}
 use Rattle.turning.specs.Calls.{UnitTold, TakenApart, RunCalled}
 use Rattle.turning.specs.Settings.{ListApart, OfferApart, SettingsCalled}
+use Rattle.turning.specs.Kerbs.{ReadApart, ticksLeft, TicksCalled}
 use Rattle.turning.specs.Claims.{BeforeWalk, BeforeWalks, RefusalWritesNothing}
 
 -- an answer that has entries only beside 0
@@ -101,6 +110,31 @@ module _ (a : ℕ) (h : a ≡ 0 → ⊥) (m : BeforeWalks a) where
     list-kept s before p' r' after k =
         where-room 7 before p' r' (k .path) (k .reaches) (λ g. list-untouched (readJob s) (k .apart g))
 
+-- ---- a kerb
+
+-- a reading that is refused leaves a run
+module _ (a : ℕ) (h : a ≡ 0 → ⊥) (k : KerbRuns) where
+  ticks-kept : (x : Read Survey) → ReadApart a (kerbAnswer x (k .xs) (k .ys)) → (ticks : Survey → List ℤ) (run : List ℤ) → ticksIn x ticks (k .xs) (k .ys) run ≡ run
+  ticks-kept (refused n p) t ticks run = refl
+  ticks-kept (got g e) t ticks run = by (roomIn (length (verticesOf g)) (k .xs) (k .ys)) t
+    where
+      by : (b : Bool) → ReadApart a (pick b (K.Vertices (length (verticesOf g))) (K.Refused 21)) → pick b (sets run 0 (ticks g)) run ≡ run
+      by true t = absurd (h t)
+      by false t = refl
+
+  kerb-kept : (g : List ℕ) (before : List ℤ) (k' : KerbRuns) (after : List ℤ) → TicksCalled g k before a k' after → k' ≡ k
+  kerb-kept g before k' after c = by (leb 1 (length before)) refl (c .ticks)
+    where
+      left : 1 ≤ length before → ticksLeft g k ≡ k
+      left m =
+          let p = ticks-kept (readGeometry g) (c .apart m) eastTicks (k .xs) in
+          let q = ticks-kept (readGeometry g) (c .apart m) northTicks (k .ys) in
+          λ i. record { xs = p i; ys = q i }
+
+      by : (b : Bool) → leb 1 (length before) ≡ b → k' ≡ pick b (ticksLeft g k) k → k' ≡ k
+      by true z e = e ∙ left (leb-true 1 (length before) z)
+      by false z e = e
+
 pub writes-nothing : RefusalWritesNothing
 writes-nothing = record {
   sweep = λ s before a after k. kept 8 (sweepTold (sweptOf s)) (sweep-bare (sweptOf s)) before a after (k .told);
@@ -110,4 +144,6 @@ writes-nothing = record {
   seven-runs = λ s p r before a p' r' after k h m. runs-kept a h m p r s before p' r' after k;
   settings = λ s b p r before a p' r' after k. kept 7 (settingsTold (offeredInto (readJob s) b p r)) (settings-bare (offeredInto (readJob s) b p r)) before a after (k .told);
   settings-runs = λ s b p r before a p' r' after k h m. list-kept a h m b p r s before p' r' after k;
+  kerb-ticks = λ g k before a k' after c h. (kept 1 (ticksTold (kerbAnswer (readGeometry g) (k .xs) (k .ys))) (ticks-bare (kerbAnswer (readGeometry g) (k .xs) (k .ys))) before a after (c .told) h, kerb-kept a h k g before k' after c);
+  kerb-touch = λ s n k before a after c. kept 3 (touchTold (kerbedTicks (readJob s) n k)) (touch-bare (kerbedTicks (readJob s) n k)) before a after (c .told);
 }

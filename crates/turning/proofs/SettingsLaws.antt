@@ -42,7 +42,7 @@ module _ (s : List ℕ) where
 
   pub offer-fits : (a : Offered) → OfferedSo s a → OfferedFits a
   offer-fits (O.Listed l) h = tt
-  offer-fits (O.Refused n p) h = record { byte = h .near }
+  offer-fits (O.Refused n p) h = record { byte = omega (arith, h .near) }
 
   module _ (b : Rail) (p : PathRuns) (r : Reaches) (before : List ℤ) where
     abbrev answer : Offered

@@ -8,10 +8,12 @@ use Rattle.unit.specs.declared.UnitTurn.{UnitTurn}
 use Rattle.path.specs.Laying.{PathRuns}
 use Rattle.reaches.specs.Cells.{Reaches}
 use Rattle.bogie.specs.Settings.{Rail}
+use Rattle.kerb_line.specs.Kerb.{KerbRuns}
 use Rattle.answer_run.specs.Answers.{Answered}
 use Rattle.answer_run.specs.Turns.{pathTold, unitTold}
 use Rattle.turning.specs.Calls.{numberIn, SweepCalled, RunCalled}
 use Rattle.turning.specs.Settings.{SettingsCalled}
+use Rattle.turning.specs.Kerbs.{TicksCalled, TouchCalled}
 
 -- refused before the walk begins: the job by 1 to 10, or a run too short by 21
 abbrev pub BeforeWalk : ℕ → Type 0
@@ -38,3 +40,6 @@ pub record RefusalWritesNothing : Type 0 where
   -- and none of its seven runs where it is refused before any walk; on 30 they hold the last walk (02, N1: "30 included despite demand 1")
   pub settings-runs : (s : List ℕ) (b : Rail) (p : PathRuns) (r : Reaches) (before : List ℤ) (a : ℕ) (p' : PathRuns) (r' : Reaches) (after : List ℤ)
       → SettingsCalled s b p r before a p' r' after → (a ≡ 0 → ⊥) → BeforeWalks a → (p' ≡ p) × (r' ≡ r)
+  -- a kerb that is not read leaves the answer run and both runs of ticks, and a report that is refused its answer run
+  pub kerb-ticks : (g : List ℕ) (k : KerbRuns) (before : List ℤ) (a : ℕ) (k' : KerbRuns) (after : List ℤ) → TicksCalled g k before a k' after → (a ≡ 0 → ⊥) → (after ≡ before) × (k' ≡ k)
+  pub kerb-touch : (s : List ℕ) (n : ℕ) (k : KerbRuns) (before : List ℤ) (a : ℕ) (after : List ℤ) → TouchCalled s n k before a after → (a ≡ 0 → ⊥) → after ≡ before

@@ -1,3 +1,4 @@
 pub mod Calls
 pub mod Settings
+pub mod Kerbs
 pub mod Claims

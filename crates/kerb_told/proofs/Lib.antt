@@ -1,0 +1,3 @@
+pub mod BareLaws
+pub mod Rows
+pub mod Witnesses

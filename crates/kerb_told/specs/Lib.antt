@@ -1,0 +1,4 @@
+pub mod Printed
+pub mod Forms
+pub mod Entries
+pub mod Inner

@@ -1,0 +1,2 @@
+pub mod KerbedLaws
+pub mod SurveyLaws

@@ -1,0 +1,4 @@
+pub mod Kerbed
+pub mod Ranges
+pub mod Inner
+pub mod Claims
