@@ -6,7 +6,9 @@
   oracle.py settings LOWEST PITCH NUMBER < job.bin
                                 prints what the program settings prints for these three numbers
   oracle.py worked              the paper's worked cases
-  oracle.py vectors             writes the tables of job_trials and call_trials (some minutes)
+  oracle.py vectors             writes the tables of job_trials, call_trials and kerb_trials (some minutes)
+  oracle.py kerbs               writes the table of kerb_trials alone (seconds)
+  oracle.py checks              the oracle's own touching and rounding against a second exact method
   oracle.py groups              the conventions that rows of the tables pin, and on which lines
 """
 import pathlib
@@ -14,13 +16,17 @@ import sys
 
 sys.dont_write_bytecode = True  # keeps the repository free of compiled files
 
+from turning.kerb_checks import check_kerbs  # noqa: E402
+from turning.kerbs import tell_kerb_groups, write_kerbs  # noqa: E402
 from turning.settings import numbers_of, settings  # noqa: E402
 from turning.sweep import sweep  # noqa: E402
 from turning.vectors import tell_groups, write_vectors  # noqa: E402
 from turning.worked import check_worked  # noqa: E402
 
-CRATES = pathlib.Path(__file__).resolve().parent.parent / "crates"
+TOOLS = pathlib.Path(__file__).resolve().parent
+CRATES = TOOLS.parent / "crates"
 TABLES = (CRATES / "job_trials" / "data", CRATES / "call_trials" / "data")
+KERBS = (CRATES / "kerb_trials" / "data", TOOLS / "gis_kerbs.txt")
 
 
 def bytes_of(line):
@@ -44,10 +50,16 @@ def main(arguments):
         sweep_lines()
     elif command == "worked":
         return 0 if check_worked() else 1
+    elif command == "checks":
+        return 0 if check_kerbs() else 1
     elif command == "vectors":
         write_vectors(*TABLES)
+        write_kerbs(*KERBS)
+    elif command == "kerbs":
+        write_kerbs(*KERBS)
     elif command == "groups":
         tell_groups(*TABLES)
+        tell_kerb_groups(*KERBS)
     else:
         sys.stderr.write(__doc__)
         return 2

@@ -5,8 +5,8 @@
 
 Every program is run in a copy of its data/ on its stdin: standard output must be its file stdout, standard
 error empty. `sweep` is then fed every job of the tables, the longest of them padded to several lengths and in
-pieces, and inputs and outputs that fail; `settings` likewise, with lists and with wrong arguments. No contract can
-say what a program reads and writes.
+pieces, and inputs and outputs that fail; `settings` likewise, with lists and with wrong arguments; `kerb` with jobs,
+geometries and files that cannot be opened or read. No contract can say what a program reads and writes.
 """
 import concurrent.futures
 import os
@@ -21,6 +21,7 @@ import tty
 
 sys.dont_write_bytecode = True  # keeps the repository free of compiled files
 
+from turning.kerb_inputs import long_files, printed, table_inputs  # noqa: E402
 from turning.long_settings_jobs import long_rows  # noqa: E402
 from turning.record import Refused, read_job  # noqa: E402
 from turning.settings import numbers_of, settings  # noqa: E402
@@ -205,6 +206,38 @@ def settings_cases(program):
     yield from input_cases([program] + SOME_SETTINGS, lambda data: settings(data, *numbers), longest_of(jobs))
 
 
+def kerb_case(program, folder, at, job, geometry, text):
+    """One job with one geometry, which stands in a file of its own."""
+    file = folder / ("%d.wkb" % at)
+    file.write_bytes(geometry)
+    name = "kerb %s < %s" % (geometry[:60].hex(), job.hex())
+    return name, lambda: from_pipe([program, file], job, 4_096), (text.encode(), b"")
+
+
+def kerb_failures(program, file, worked):
+    """Arguments that are wrong, files that cannot be opened, and one that cannot be read; the job is read before."""
+    unopened, unread = ((b"", b"kerb: the kerb's file cannot be %s\n" % word) for word in (b"opened", b"read"))
+    expected = (b"", b"kerb: expected one argument: the name of the kerb's file\n")
+    for words in ([], [file, file], [file, ""]):
+        yield "arguments %r" % words, lambda words=words: from_file([program] + words, worked), expected
+    for name in ("", file.parent / "none.wkb", "x" * 5_000, file / "below"):
+        yield "file %.60r" % name, lambda name=name: from_file([program, name], worked), unopened
+    yield "a folder", lambda: from_file([program, file.parent], worked), unread
+    for way in ("<&-", "</"):
+        yield "no job, " + way, lambda way=way: by_shell([program, "none.wkb"], way), (b"", b"kerb" + UNREAD.encode())
+
+
+def kerb_cases(program, folder):
+    """Every job and geometry of the table, long and short files, files that fail, and what `sweep` is put through."""
+    lines = (ROOT / "crates" / "kerb_trials" / "data" / "kerbs.txt").read_text("ascii").splitlines()
+    crate = ROOT / "crates" / "kerb"
+    worked, file = stored(crate, "stdin"), crate / "data" / "kerb.wkb"
+    for at, (job, geometry, text) in enumerate([*table_inputs(lines), *long_files(worked)]):
+        yield kerb_case(program, folder, at, job, geometry, text)
+    yield from kerb_failures(program, file, worked)
+    yield from input_cases([program, file], lambda data: printed(data, file.read_bytes()), longest_of(table_jobs()))
+
+
 def stored(crate, name):
     file = crate / name
     return file.read_bytes() if file.is_file() else b""
@@ -255,9 +288,11 @@ def main(arguments):
     if missing:
         print("not in %s: %s" % (folder, " ".join(missing)), file=sys.stderr)
         return 1
-    same = [compare("programs", program_cases(folder), "run, both streams as stored"),
-            compare("sweep", sweep_cases(folder / "sweep"), "inputs, all as expected"),
-            compare("settings", settings_cases(folder / "settings"), "inputs, all as expected")]
+    with tempfile.TemporaryDirectory() as kerbs:
+        same = [compare("programs", program_cases(folder), "run, both streams as stored"),
+                compare("sweep", sweep_cases(folder / "sweep"), "inputs, all as expected"),
+                compare("settings", settings_cases(folder / "settings"), "inputs, all as expected"),
+                compare("kerb", kerb_cases(folder / "kerb", pathlib.Path(kerbs)), "inputs, all as expected")]
     return 0 if all(same) else 1
 
 
