@@ -250,7 +250,7 @@ pub fn some_job(chance: &mut Chance) -> Vec<u8> {
 }
 
 /// The four units of the heaviest walks: wheelbase, hitch and fold limit.
-const HEAVY_UNITS: [[u64; 3]; 4] =
+pub(crate) const HEAVY_UNITS: [[u64; 3]; 4] =
     [[40_000, 2 * 3_000, 0], [60_000, 2 * 2_000 - 1, 999], [30_000, 2 * 1_000, 1_999], [80_000, 0, 999]];
 
 /// The record of a vehicle with 2,000 steps and bends both ways after it.

@@ -1,7 +1,9 @@
 //! The turning check for hired trailers: the proved static library behind safe functions, and a plain
 //! Rust reference, written from the paper alone, to compare it with.
 
+pub mod geometries;
 pub mod jobs;
+pub mod kerbs;
 pub mod lists;
 mod plane;
 #[cfg(feature = "product")]
@@ -10,7 +12,9 @@ pub mod record;
 pub mod reference;
 pub mod runs;
 pub mod settings;
+pub mod touch;
 pub mod turns;
+pub mod yards;
 
 use std::fmt;
 
@@ -65,6 +69,32 @@ impl fmt::Display for Listing {
             Listing::Unlisted { number } => writeln!(f, "refused {number}"),
         }
     }
+}
+
+/// What the reading of a kerb's geometry into two lent runs of ticks comes to.
+#[derive(Clone, Copy, Debug, PartialEq, Eq)]
+pub enum Intake {
+    /// So many vertices stand at the start of both runs.
+    Taken { vertices: usize },
+    /// 12 or 13, at a byte of the geometry.
+    Refused { number: u32, at: usize },
+    /// 21, which no byte stands for: a lent run is shorter than the kerb.
+    Untaken { number: u32 },
+}
+
+/// What the report of a rig beside a kerb comes to.
+#[derive(Clone, Copy, Debug, PartialEq, Eq)]
+pub enum Report {
+    /// The first step in which a point touches or crosses the kerb, and the lowest such point.
+    Touched { step: u32, point: u32 },
+    /// The last station is reached and no point has touched the kerb.
+    Clear,
+    /// The job is turned down, at a byte of the input.
+    Refused { number: u32, at: usize },
+    /// 21 or 26 for the kerb, which no byte of the input stands for.
+    Unreported { number: u32 },
+    /// A step is turned down before any touch; units and steps are counted from 1.
+    Stopped { number: u32, unit: u32, step: u32 },
 }
 
 /// The bytes of a line of hexadecimal digits, `-` for none.

@@ -57,13 +57,13 @@ fn middle_stops(chance: &mut Chance) -> Vec<u8> {
 }
 
 /// With its hitch far ahead of the axle, only middling trailers pass.
-fn ends_stop(chance: &mut Chance) -> Vec<u8> {
+pub(crate) fn ends_stop(chance: &mut Chance) -> Vec<u8> {
     let (hitch, fold) = (chance.between(30_000, 40_000), chance.between(-700, 500));
     bend_job(chance, hitch, fold)
 }
 
 /// One unit on a straight, where all widths are equal; now and then a wrong step or a byte left over.
-fn straight_job(chance: &mut Chance) -> Vec<u8> {
+pub(crate) fn straight_job(chance: &mut Chance) -> Vec<u8> {
     let mut fields = vehicle(chance, &[[50_000, 0, 0]]);
     let step = chance.between(2_500, 9_000);
     let step = if chance.one_in(10) { chance.pick(&[99, 20_001]) } else { step };

@@ -1,5 +1,7 @@
 //! The proved static library behind safe functions. `include/turning.h` says what each call answers.
 
+pub mod kerbs;
+
 use crate::runs::Runs;
 use crate::{Listing, Swept};
 

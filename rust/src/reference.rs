@@ -173,25 +173,44 @@ fn widest(cells: &[Cell], units: usize) -> Option<(u32, i64, i64, i64)> {
     best
 }
 
-/// What the walk of a job over its path comes to, and what the stations have kept by then.
-pub(crate) fn walked(job: &Job, path: &[Station]) -> (Swept, Vec<Cell>) {
-    let vehicle = &job.vehicle;
-    let mut cells = vec![CLEARED; path.len()];
+/// A step that is turned down: the number, the unit and the step, both counted from 1.
+pub(crate) type Stop = (u32, u32, u32);
+
+/// Leads a rig from its placement along the path and shows each step made: its number, where the points stood and
+/// where they stand. Ends early with what `shown` answers, as soon as it answers something.
+pub(crate) fn led<T>(
+    vehicle: &Vehicle,
+    path: &[Station],
+    mut shown: impl FnMut(u32, &[Vector], &[Vector]) -> Option<T>,
+) -> Result<Option<T>, Stop> {
     let mut d: Vec<Vector> =
         vehicle.units.iter().map(|unit| (path[0].heading * unit.wheelbase).nearest(NOMINAL)).collect();
     let mut old = points(vehicle, &d, path[0].position);
     for k in 1..path.len() {
         let (from, to) = (path[k - 1].position, path[k].position);
-        d = match turn_units(vehicle, &d, from, to) {
-            Ok(new) => new,
-            Err((number, unit)) => return (Swept::Stopped { number, unit, step: k as u32 }, cells),
-        };
+        d = turn_units(vehicle, &d, from, to).map_err(|(number, unit)| (number, unit, k as u32))?;
         let new = points(vehicle, &d, to);
-        cross(path, &mut cells, &old, &new);
+        let told = shown(k as u32, &old, &new);
+        if told.is_some() {
+            return Ok(told);
+        }
         old = new;
     }
+    Ok(None)
+}
+
+/// What the walk of a job over its path comes to, and what the stations have kept by then.
+pub(crate) fn walked(job: &Job, path: &[Station]) -> (Swept, Vec<Cell>) {
+    let mut cells = vec![CLEARED; path.len()];
+    let enter = |_, old: &[Vector], new: &[Vector]| -> Option<()> {
+        cross(path, &mut cells, old, new);
+        None
+    };
+    if let Err((number, unit, step)) = led(&job.vehicle, path, enter) {
+        return (Swept::Stopped { number, unit, step }, cells);
+    }
     let front = path[path.len() - 1].position;
-    let widest = widest(&cells, vehicle.units.len());
+    let widest = widest(&cells, job.vehicle.units.len());
     (Swept::Finished { steps: path.len() as u32 - 1, widest, front: (front.x, front.y) }, cells)
 }
 

@@ -1,13 +1,15 @@
 //! The heaviest job through the product and the reference, one after the other in one run, then the turn of a single
-//! unit through both, then the product's list of 32 settings beside 32 of its sweeps. `TURNING_REPEATS` says how often
-//! (101 where it is not set); the list, which walks 32 times a round, takes a fifth of the rounds.
+//! unit through both, then the heaviest report of a rig beside a kerb through both, then the product's list of 32 settings
+//! beside 32 of its sweeps. `TURNING_REPEATS` says how often (101 where it is not set); the report and the list, which
+//! walks 32 times a round, take a fifth of the rounds.
 
 use std::hint::black_box;
 use std::time::{Duration, Instant};
 use turning::runs::Runs;
 use turning::settings::{fitting, walks};
 use turning::turns::{some_turn, Turn};
-use turning::{jobs, product, reference, settings, Swept};
+use turning::yards::{distances, heaviest_yard, Yard};
+use turning::{jobs, product, reference, settings, touch, Report, Swept};
 
 /// 32 last wheelbases around the heaviest job's own 80,000: the lowest, the pitch and how many.
 const SETTINGS: (u32, u32, u32) = (64_500, 1_000, 32);
@@ -102,6 +104,47 @@ fn compare_turns(rounds: usize) {
     println!("reference  {:9.1} ns", each(theirs));
 }
 
+type Tell = fn(&[u8], usize, &[i32], &[i32]) -> Report;
+
+fn tell(report: Tell, yard: &Yard) -> Report {
+    let Yard { job, vertices, xs, ys } = black_box(yard);
+    black_box(report(job, *vertices, xs, ys))
+}
+
+/// Both find the kerb clear, which is within two metres of the rig in every step and everywhere from end to end.
+fn check_report(yard: &Yard) {
+    assert_eq!(tell(touch::report, yard), Report::Clear, "the kerb is never touched");
+    assert_eq!(tell(product::kerbs::report, yard), Report::Clear, "both must report the same");
+    let (by_step, by_vertex) = distances(yard);
+    assert_eq!((by_step.len(), by_vertex.len()), (2_000, 500));
+    let greatest = |distances: &[f64]| distances.iter().copied().fold(0.0, f64::max);
+    let least = by_step.iter().copied().fold(f64::INFINITY, f64::min);
+    let (step, vertex) = (greatest(&by_step), greatest(&by_vertex));
+    assert!(step <= 20_000.0 && vertex <= 20_000.0, "{step} and {vertex} ticks");
+    println!(
+        "20 points, 2,000 steps beside a kerb of 500 vertices, none touched; the nearest comes to {:.2} m",
+        least / 1e4
+    );
+    println!(
+        "after every step a vertex is within {:.2} m of a point, and every vertex at some step within {:.2} m",
+        step / 1e4,
+        vertex / 1e4
+    );
+}
+
+fn compare_reports(rounds: usize) {
+    let yard = heaviest_yard();
+    check_report(&yard);
+    let once = |report: Tell| {
+        tell(report, &yard);
+    };
+    let (ours, theirs) = medians(rounds, || once(product::kerbs::report), || once(touch::report));
+    println!("the report from bytes to answer: medians of {rounds} rounds");
+    println!("ours       {:9.3} ms", ours.as_secs_f64() * 1e3);
+    println!("reference  {:9.3} ms", theirs.as_secs_f64() * 1e3);
+    println!("ratio ours / reference {:.3}", ours.as_secs_f64() / theirs.as_secs_f64());
+}
+
 fn main() {
     let job = jobs::heaviest();
     let answer = reference::sweep(&job);
@@ -115,8 +158,9 @@ fn main() {
     println!("reference  {:9.3} ms", theirs.as_secs_f64() * 1e3);
     println!("ratio ours / reference {:.3}", ours.as_secs_f64() / theirs.as_secs_f64());
     compare_turns(rounds);
-    check_settings(&job);
     let rounds = (rounds / 5).max(1);
+    compare_reports(rounds);
+    check_settings(&job);
     let (listed, swept) = medians(rounds, || list_32_settings(&job), || sweep_32_times(&job));
     println!("the same job at 32 last wheelbases, 64,500 to 95,500, beside 32 sweeps: medians of {rounds} rounds");
     println!("32 settings{:9.3} ms", listed.as_secs_f64() * 1e3);
