@@ -59,6 +59,8 @@ def rewrite(p, text, turned, crates):
     def word(m):
         before = text[: m.start()]
         old = m[0]
+        if p.suffix in (".rt", ".edit") and "-" not in old and old == snake(old):
+            return old
         if before.endswith(".") and (re.split(r"[^\w'·-]", before[:-1])[-1] in foreign or "-" not in old and old == snake(old)):
             return old
         return turned.get(old, old)
@@ -92,7 +94,7 @@ def main():
         rewrite(p, text, turned, crates)
     for page in (ROOT / "README.md", *sorted((ROOT / "docs").rglob("*.md"))):
         text = page.read_text()
-        page.write_text(re.sub(r"`[^`\n]+`", lambda code: TOKEN.sub(lambda m: turned.get(m[0], m[0]), code[0]), text))
+        page.write_text(re.sub(r"`[^`\n]+`", lambda code: TOKEN.sub(lambda m: m[0] if "-" not in m[0] and m[0] == snake(m[0]) else turned.get(m[0], m[0]), code[0]), text))
 
 
 main()

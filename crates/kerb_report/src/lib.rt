@@ -26,7 +26,7 @@ pub enum KerbReport {
     Refused(u8),
 }
 
-fn is_made_lem(answer: StepAnswer) -> bool
+fn is_made(answer: StepAnswer) -> bool
     ensures { result ≡ is_made (outcome_of answer) }
 {
     match answer {

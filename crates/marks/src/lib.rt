@@ -35,7 +35,7 @@ pub fn with_bit(p: usize, mark: Mark) -> Mark
 }
 
 // Whether the bits of the first points, so many of them, are all set: the remainder leaves out the bits above them.
-pub fn all_set_lem(count: usize, mark: Mark) -> bool
+pub fn all_set(count: usize, mark: Mark) -> bool
     requires { HavePlaces count }
     ensures { result ≡ all_set count mark }
 {

@@ -30,7 +30,7 @@ pub enum Ran {
     Refused(u8),
 }
 
-fn is_made_lem(answer: StepAnswer) -> bool
+fn is_made(answer: StepAnswer) -> bool
     ensures { result ≡ is_made (outcome_of answer) }
 {
     match answer {

@@ -84,7 +84,7 @@ pub enum Decimal {
     Unreadable,
 }
 
-fn is_digit_lem(b: u8) -> bool
+fn is_digit(b: u8) -> bool
     ensures { result ≡ is_digit b }
 {
     48 <= b && b <= 57

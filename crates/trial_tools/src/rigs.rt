@@ -69,7 +69,7 @@ pub fn sample_job(fold: i32, arc: u32, radius: u32) -> Job {
 }
 
 // A record that no walk has used yet.
-pub fn no_walk_lem(v: Vehicle) -> Walk {
+pub fn no_walk(v: Vehicle) -> Walk {
     Walk {
         vehicle: v,
         station: 0,

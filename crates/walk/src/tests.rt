@@ -133,7 +133,7 @@ pub fn record_sound(asked: usize, w: Walk) -> bool
 }
 
 // 25: no station follows this one; no sum, which might overflow, is made.
-pub fn at_last_lem(asked: usize, station: usize) -> bool
+pub fn at_last(asked: usize, station: usize) -> bool
     ensures { result ≡ leb asked (station + 1) }
 {
     if asked == 0 {

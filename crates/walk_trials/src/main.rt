@@ -12,7 +12,7 @@ pub struct Walked {
     pub walk: Walk,
 }
 
-fn is_made_lem(a: StepAnswer) -> bool {
+fn is_made(a: StepAnswer) -> bool {
     match a {
         StepAnswer::Made => true,
         StepAnswer::Refused(_) => false,
@@ -49,7 +49,7 @@ fn walk_along(
     while made < asked {
         let advanced = stations::step(w, asked, xs, ys, gxs, gys, left, right, marks);
         let answer = advanced.answer;
-        if is_made_lem(answer) {
+        if is_made(answer) {
             w = advanced.walk;
             made += 1;
         } else {
