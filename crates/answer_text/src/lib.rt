@@ -15,7 +15,7 @@ use run::Finish;
 use swept::Swept;
 
 // The lines stand at the start of the array; zeros stand after them.
-#[derive(Drop)]
+#[derive(Clone, Copy)]
 pub struct Text {
     pub bytes: [u8; 192],
     pub length: usize,

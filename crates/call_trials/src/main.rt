@@ -10,7 +10,7 @@ use libc::STDOUT_FILENO;
 use trial_tools::reading::Cursor;
 
 // The calls of one kind: how many, how many of them answer as they should, and the line of the first that does not, 0 for none.
-#[derive(Drop)]
+#[derive(Clone, Copy)]
 pub struct Count {
     pub all: u64,
     pub right: u64,
@@ -18,7 +18,7 @@ pub struct Count {
 }
 
 // The kind of a line's call, 0 where there is none such, and whether it answers as it should.
-#[derive(Drop)]
+#[derive(Clone, Copy)]
 pub struct Outcome {
     pub kind: usize,
     pub right: bool,

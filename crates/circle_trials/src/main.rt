@@ -12,7 +12,7 @@ use trial_tools::{arguments, lines, places, reading, rigs};
 use walk::Walk;
 
 // What is measured from a station on: the last unit's axle on a circle, or the first unit's vector against the line's next one.
-#[derive(Drop)]
+#[derive(Clone, Copy)]
 pub struct Trial {
     pub circle: bool,
     pub from: usize,
@@ -23,7 +23,7 @@ pub struct Trial {
 }
 
 // The stations measured, the largest deviation of them, and how far the line is read.
-#[derive(Drop)]
+#[derive(Clone, Copy)]
 pub struct Found {
     pub stations: u64,
     pub largest: u32,

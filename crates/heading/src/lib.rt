@@ -15,13 +15,13 @@ const STEP_ALONE: Range = Range {
 };
 
 // The heading after a step, and the move along the path.
-#[derive(Drop)]
+#[derive(Clone, Copy)]
 pub struct Advance {
     pub heading: Vec2,
     pub shift: Vec2,
 }
 
-#[derive(Drop)]
+#[derive(Clone, Copy)]
 pub enum PathTurn {
     Turned(Advance),
     Refused(u8),

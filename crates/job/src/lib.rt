@@ -13,27 +13,27 @@ ghost use Rattle.job.specs.Inner.{Countable};
 use number::Range;
 use plane::Vec2;
 
-#[derive(Drop)]
+#[derive(Clone, Copy)]
 pub enum Side {
     Left,
     Right,
 }
 
 // A path element is a straight, or an arc with its turn side and the size of its radius.
-#[derive(Drop)]
+#[derive(Clone, Copy)]
 pub enum Curve {
     Straight,
     Arc(Side, u32),
 }
 
-#[derive(Drop)]
+#[derive(Clone, Copy)]
 pub struct Element {
     pub length: u32,
     pub curve: Curve,
 }
 
 // How far a unit's body reaches beyond its front point and its rear axle, and to either side.
-#[derive(Drop)]
+#[derive(Clone, Copy)]
 pub struct Body {
     pub front_overhang: u32,
     pub rear_overhang: u32,
@@ -41,7 +41,7 @@ pub struct Body {
 }
 
 // The hitch lies so far ahead of the rear axle; the fold limit is in thousandths.
-#[derive(Drop)]
+#[derive(Clone, Copy)]
 pub struct Unit {
     pub wheelbase: u32,
     pub hitch: i32,
@@ -50,13 +50,13 @@ pub struct Unit {
 }
 
 // A long job has bodies; those of a short one are never read.
-#[derive(Drop)]
+#[derive(Clone, Copy)]
 pub enum Form {
     Short,
     Long,
 }
 
-#[derive(Drop)]
+#[derive(Clone, Copy)]
 pub struct Vehicle {
     pub form: Form,
     pub count: usize,
@@ -66,7 +66,7 @@ pub struct Vehicle {
     pub rear_half_width: u32,
 }
 
-#[derive(Drop)]
+#[derive(Clone, Copy)]
 pub struct Start {
     pub x: i32,
     pub y: i32,
@@ -74,7 +74,7 @@ pub struct Start {
     pub gy: i32,
 }
 
-#[derive(Drop)]
+#[derive(Clone, Copy)]
 pub struct Job {
     pub vehicle: Vehicle,
     pub start: Start,

@@ -2,7 +2,7 @@
 ghost use Rattle.job_input.specs.Input.{InputEnsures};
 
 // So many bytes, to the input's end or the buffer's; or a read that failed.
-#[derive(Drop)]
+#[derive(Clone, Copy)]
 pub enum Input {
     Bytes(usize),
     Failed,

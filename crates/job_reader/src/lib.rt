@@ -14,69 +14,69 @@ use number::{Cursor, Refusal};
 
 // Where reading goes on, or a refusal's number and place. It stands beside what was read, since an enum holds no array; beside a refusal
 // stands the empty part.
-#[derive(Drop)]
+#[derive(Clone, Copy)]
 pub enum Passed {
     At(Cursor),
     Refused(u8, usize),
 }
 
-#[derive(Drop)]
+#[derive(Clone, Copy)]
 pub struct BodyRead {
     pub answer: Passed,
     pub body: Body,
 }
 
-#[derive(Drop)]
+#[derive(Clone, Copy)]
 pub struct UnitRead {
     pub answer: Passed,
     pub unit: Unit,
 }
 
-#[derive(Drop)]
+#[derive(Clone, Copy)]
 pub struct UnitsRead {
     pub answer: Passed,
     pub units: [Unit; 4],
 }
 
-#[derive(Drop)]
+#[derive(Clone, Copy)]
 pub struct VehicleRead {
     pub answer: Passed,
     pub vehicle: Vehicle,
 }
 
-#[derive(Drop)]
+#[derive(Clone, Copy)]
 pub struct StartRead {
     pub answer: Passed,
     pub start: Start,
 }
 
-#[derive(Drop)]
+#[derive(Clone, Copy)]
 pub struct ElementRead {
     pub answer: Passed,
     pub element: Element,
 }
 
-#[derive(Drop)]
+#[derive(Clone, Copy)]
 pub struct ElementsRead {
     pub answer: Passed,
     pub elements: [Element; 64],
 }
 
 // A job that may still have bytes after it.
-#[derive(Drop)]
+#[derive(Clone, Copy)]
 pub struct PathRead {
     pub answer: Passed,
     pub job: Job,
 }
 
-#[derive(Drop)]
+#[derive(Clone, Copy)]
 pub enum ReadAnswer {
     Accepted,
     Refused(u8, usize),
 }
 
 // The answer of the reader; beside a refusal stands the empty job.
-#[derive(Drop)]
+#[derive(Clone, Copy)]
 pub struct JobRead {
     pub answer: ReadAnswer,
     pub job: Job,

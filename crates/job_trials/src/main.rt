@@ -56,7 +56,7 @@ fn pair(digits: &[u8], k: usize) -> u32 {
 }
 
 // The bytes that the digits are, up to the first that is no digit.
-#[derive(Drop)]
+#[derive(Clone, Copy)]
 pub struct Decoded {
     pub bytes: [u8; 1100],
     pub count: usize,
@@ -143,7 +143,7 @@ fn held(line: &[u8], number: usize) -> usize
 }
 
 // How many lines there are, and how many hold.
-#[derive(Drop)]
+#[derive(Clone, Copy)]
 pub struct Tally {
     pub lines: usize,
     pub good: usize,

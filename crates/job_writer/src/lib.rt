@@ -10,14 +10,14 @@ ghost use Rattle.job_writer.specs.Inner.{Copied};
 use job::Job;
 
 // The most bytes that a record may be encoded in.
-#[derive(Drop)]
+#[derive(Clone, Copy)]
 pub struct Encoded {
     pub bytes: [u8; 520],
     pub at: usize,
 }
 
 // The number of bytes written, or why nothing is written.
-#[derive(Drop)]
+#[derive(Clone, Copy)]
 pub enum Wrote {
     Bytes(usize),
     Refused(u8),

@@ -6,7 +6,7 @@ ghost use Rattle.kerb_line.specs.Inner.{smaller as smallerZ, greater as greaterZ
 use marks::POINT_CAPACITY;
 use plane::Vec2;
 
-#[derive(Drop)]
+#[derive(Clone, Copy)]
 pub(crate) struct Bounds {
     pub west: i64,
     pub east: i64,

@@ -14,7 +14,7 @@ use marks::POINT_CAPACITY;
 use plane::Vec2;
 
 // The lowest point whose move touches a kerb, if one does.
-#[derive(Drop)]
+#[derive(Clone, Copy)]
 pub enum Contact {
     Nothing,
     Point(usize),

@@ -16,28 +16,28 @@ use metres::Vertex;
 use number::{Cursor, Refusal};
 
 // What was surveyed: a point with its coordinates, or a line with its first vertex and its number of vertices.
-#[derive(Drop)]
+#[derive(Clone, Copy)]
 pub enum Geometry {
     Point(f64, f64),
     Line(Vertex, usize),
 }
 
 // A geometry, with the vertices of a line beside it.
-#[derive(Drop)]
+#[derive(Clone, Copy)]
 pub struct Survey {
     pub geometry: Geometry,
     pub vertices: [Vertex; 500],
 }
 
 // A coordinate with the cursor after it, or a refusal's number and place.
-#[derive(Drop)]
+#[derive(Clone, Copy)]
 pub enum Coordinate {
     Value(f64, Cursor),
     Refused(u8, usize),
 }
 
 // The same of a vertex.
-#[derive(Drop)]
+#[derive(Clone, Copy)]
 pub enum VertexRead {
     Value(Vertex, Cursor),
     Refused(u8, usize),
@@ -45,40 +45,40 @@ pub enum VertexRead {
 
 // Where reading goes on, or a refusal's number and place. It stands beside what was read, since an enum holds no array; beside a refusal
 // stands the empty part.
-#[derive(Drop)]
+#[derive(Clone, Copy)]
 pub enum Passed {
     At(Cursor),
     Refused(u8, usize),
 }
 
-#[derive(Drop)]
+#[derive(Clone, Copy)]
 pub struct VerticesRead {
     pub answer: Passed,
     pub vertices: [Vertex; 500],
 }
 
 // A survey that may still have bytes after it.
-#[derive(Drop)]
+#[derive(Clone, Copy)]
 pub struct SurveyRead {
     pub answer: Passed,
     pub survey: Survey,
 }
 
-#[derive(Drop)]
+#[derive(Clone, Copy)]
 pub enum GeometryAnswer {
     Read,
     RefusedAt(u8, usize),
 }
 
 // The answer of the reader; beside a refusal stands the empty survey.
-#[derive(Drop)]
+#[derive(Clone, Copy)]
 pub struct GeometryRead {
     pub answer: GeometryAnswer,
     pub survey: Survey,
 }
 
 // How many vertices stand in the lent runs; or a refusal at a byte, or by 21 without one.
-#[derive(Drop)]
+#[derive(Clone, Copy)]
 pub enum KerbRead {
     Vertices(usize),
     RefusedAt(u8, usize),

@@ -18,7 +18,7 @@ use plane::Vec2;
 use walk::{Advanced, StepAnswer, Walk};
 
 // No touch up to the last station; the first step that touches and its lowest point; a step that is refused before any touch, with the number, the unit and the step; or a refusal before any step.
-#[derive(Drop)]
+#[derive(Clone, Copy)]
 pub enum KerbReport {
     Nothing,
     Touch(usize, usize),

@@ -9,7 +9,7 @@ use libc::STDOUT_FILENO;
 use trial_tools::reading::Cursor;
 
 // The calls of each kind, 0 for none such, and how many of them answer as they should; the first line that does not, 0 for none.
-#[derive(Drop)]
+#[derive(Clone, Copy)]
 pub struct Tally {
     pub all: [u64; 5],
     pub right: [u64; 5],

@@ -15,7 +15,7 @@ use kerb_report::KerbReport;
 use path::Laid;
 
 // No touch; the first step that touches and its lowest point; stopped at a step, with the refusal, the unit and the step; or refused, with the byte where the field starts (0 beside 21 and 26).
-#[derive(Drop)]
+#[derive(Clone, Copy)]
 pub enum Kerbed {
     Nothing,
     Touch(usize, usize),

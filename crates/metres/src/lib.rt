@@ -21,14 +21,14 @@ const METRES_MOST: f64 = 15000.0;
 const TICKS_A_METRE: f64 = 10000.0;
 
 // A vertex as it was surveyed, in metres.
-#[derive(Drop)]
+#[derive(Clone, Copy)]
 pub struct Vertex {
     pub x: f64,
     pub y: f64,
 }
 
 // A coordinate as it was sent.
-#[derive(Drop)]
+#[derive(Clone, Copy)]
 pub enum Metres {
     Finite(f64),
     NotFinite,

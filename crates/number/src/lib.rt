@@ -8,41 +8,41 @@ ghost use Rattle.number.specs.Answers.{as_groups, as_number, as_signed, refusal_
 ghost use Rattle.number.specs.Inner.{GroupsLeft, Room};
 
 // Where reading goes on.
-#[derive(Drop)]
+#[derive(Clone, Copy)]
 pub struct Cursor {
     pub at: usize,
 }
 
 // A number with the cursor after it, or a refusal's number and place.
-#[derive(Drop)]
+#[derive(Clone, Copy)]
 pub enum Number {
     Value(u32, Cursor),
     Refused(u8, usize),
 }
 
 // The same of a signed field.
-#[derive(Drop)]
+#[derive(Clone, Copy)]
 pub enum Signed {
     Value(i32, Cursor),
     Refused(u8, usize),
 }
 
 // What a field may hold.
-#[derive(Drop)]
+#[derive(Clone, Copy)]
 pub struct Range {
     pub least: u32,
     pub most: u32,
 }
 
 // A run of groups: what it comes to and the position after it, or a refusal's number and place.
-#[derive(Drop)]
+#[derive(Clone, Copy)]
 pub enum Groups {
     Whole(u64, usize),
     Refused(u8, usize),
 }
 
 // A refusal's number and place.
-#[derive(Drop)]
+#[derive(Clone, Copy)]
 pub struct Refusal {
     pub number: u8,
     pub place: usize,

@@ -10,7 +10,7 @@ use job_reader::ReadAnswer;
 use ranking::Listed;
 
 // What the list of the job comes to; or the record's refusal, with the byte where the field starts.
-#[derive(Drop)]
+#[derive(Clone, Copy)]
 pub enum Offered {
     Listed(Listed),
     Refused(u8, usize),

@@ -9,21 +9,21 @@ use job::{Curve, Element, Job, Start};
 use plane::Vec2;
 
 // A station of the path: where it lies, and the path's heading there.
-#[derive(Drop)]
+#[derive(Clone, Copy)]
 pub struct Station {
     pub position: Vec2,
     pub heading: Vec2,
 }
 
 // How many stations were laid, or the refusal.
-#[derive(Drop)]
+#[derive(Clone, Copy)]
 pub enum Laid {
     Stations(usize),
     Refused(u8),
 }
 
 // Where the path has been walked to: the element, the ticks of it behind, and the station.
-#[derive(Drop)]
+#[derive(Clone, Copy)]
 pub struct PathCursor {
     pub element: usize,
     pub before: u32,

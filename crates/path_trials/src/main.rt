@@ -9,7 +9,7 @@ use plane::Vec2;
 use trial_tools::rigs;
 
 // The stations laid, and the place of the last.
-#[derive(Drop)]
+#[derive(Clone, Copy)]
 pub struct PathEnd {
     pub stations: usize,
     pub position: Vec2,

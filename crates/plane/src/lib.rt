@@ -7,7 +7,7 @@ ghost use Rattle.plane.specs.Settle.{settle_z, Settleable};
 ghost use Rattle.plane.specs.Drawn.{drawn, Drawable, DrawnRule};
 ghost use Rattle.plane.specs.Run.{Entry, Stored};
 
-#[derive(Drop)]
+#[derive(Clone, Copy)]
 pub struct Vec2 {
     pub x: i64,
     pub y: i64,

@@ -6,7 +6,7 @@ ghost use Rattle.point_table.specs.Table.{row_at};
 use job::Side;
 
 // What a point is measured from: the front point or the rear axle of a unit, counted from 0, or the rear axle of the last unit.
-#[derive(Drop)]
+#[derive(Clone, Copy)]
 pub enum Base {
     Front(usize),
     Rear(usize),
@@ -14,14 +14,14 @@ pub enum Base {
 }
 
 // How far ahead of its base a point lies: as far as the body's corner there, or no way.
-#[derive(Drop)]
+#[derive(Clone, Copy)]
 pub enum Along {
     Corner,
     Nothing,
 }
 
 // How far beside its base a point lies: as far as the body's corner there, or the vehicle's half width at the front wheels or the rear ones.
-#[derive(Drop)]
+#[derive(Clone, Copy)]
 pub enum Width {
     Corner,
     FrontHalf,
@@ -29,7 +29,7 @@ pub enum Width {
 }
 
 // A row of the table.
-#[derive(Drop)]
+#[derive(Clone, Copy)]
 pub struct Row {
     pub base: Base,
     pub along: Along,

@@ -7,7 +7,7 @@ use job::{Body, Form, Vehicle};
 use point_table::Base;
 
 // Where a corner lies: how far ahead of its base, negative behind, and how far beside it.
-#[derive(Drop)]
+#[derive(Clone, Copy)]
 pub struct Corner {
     pub along: i64,
     pub width: i64,

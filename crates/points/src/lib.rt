@@ -16,7 +16,7 @@ use plane::Vec2;
 use point_table::{Along, Base, Row, Width};
 
 // Where a unit stands: its front point and its rear axle, with its vector and its wheelbase.
-#[derive(Drop)]
+#[derive(Clone, Copy)]
 pub struct UnitPlace {
     pub front: Vec2,
     pub rear: Vec2,
@@ -25,7 +25,7 @@ pub struct UnitPlace {
 }
 
 // An end of a unit that points are measured from, with the vector and the wheelbase of the unit.
-#[derive(Drop)]
+#[derive(Clone, Copy)]
 pub struct End {
     pub place: Vec2,
     pub d: Vec2,

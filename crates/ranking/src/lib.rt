@@ -4,14 +4,14 @@ ghost use Rattle.ranking.specs.Ranking.{is_before, entered};
 ghost use Rattle.ranking.specs.Best.{BestThree};
 
 // A setting: the last wheelbase, and the widest width of the walk with it.
-#[derive(Drop)]
+#[derive(Clone, Copy)]
 pub struct Setting {
     pub wheelbase: u32,
     pub width: i64,
 }
 
 // The settings listed, best first; or a refusal, 30 where there is none to list.
-#[derive(Drop)]
+#[derive(Clone, Copy)]
 pub enum Listed {
     One(Setting),
     Two(Setting, Setting),

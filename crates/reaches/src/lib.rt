@@ -21,7 +21,7 @@ mod crossing;
 mod far;
 
 // What a station keeps: its left and right reach, and its mark.
-#[derive(Drop)]
+#[derive(Clone, Copy)]
 pub struct Cell {
     pub left: i32,
     pub right: i32,
@@ -29,7 +29,7 @@ pub struct Cell {
 }
 
 // The widest place: its station, width, left and right.
-#[derive(Drop)]
+#[derive(Clone, Copy)]
 pub struct Place {
     pub station: usize,
     pub width: i64,
@@ -38,13 +38,13 @@ pub struct Place {
 }
 
 // The widest place so far.
-#[derive(Drop)]
+#[derive(Clone, Copy)]
 pub enum Best {
     Nothing,
     Found(Place),
 }
 
-#[derive(Drop)]
+#[derive(Clone, Copy)]
 pub enum WidestAnswer {
     At(Place),
     Refused(u8),

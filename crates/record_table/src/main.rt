@@ -70,7 +70,7 @@ fn holds(c: Case) -> bool {
 }
 
 // A number of the table, and the position after it.
-#[derive(Drop)]
+#[derive(Clone, Copy)]
 pub struct Parsed {
     pub size: u32,
     pub negative: bool,
@@ -113,7 +113,7 @@ fn parse(s: &[u8], from: usize) -> Parsed {
 }
 
 // Whether a case of the table holds, and where the next one stands.
-#[derive(Drop)]
+#[derive(Clone, Copy)]
 pub struct Tried {
     pub holds: bool,
     pub next: usize,

@@ -39,7 +39,7 @@ const HALF_WIDTH: u32 = 17;
 
 // A record of so many units, 10 more in a long job, and of so many elements, whose field of a kind, at an index, holds a value; then the refusal's
 // number, 0 for none, and the kind of the field where it is placed.
-#[derive(Drop)]
+#[derive(Clone, Copy)]
 pub struct Case {
     pub units: u32,
     pub elements: u32,
@@ -52,7 +52,7 @@ pub struct Case {
 }
 
 // A record in the making, and where the field starts that a refusal is placed at.
-#[derive(Drop)]
+#[derive(Clone, Copy)]
 pub struct Text {
     pub bytes: [u8; 1024],
     pub at: usize,

@@ -15,7 +15,7 @@ use reaches::Best;
 use walk::{Advanced, StepAnswer, Walk};
 
 // A walk that came to the last station: the steps, the widest place if a station is complete, and the last front point.
-#[derive(Drop)]
+#[derive(Clone, Copy)]
 pub struct Finish {
     pub steps: usize,
     pub widest: Best,
@@ -23,7 +23,7 @@ pub struct Finish {
 }
 
 // Finished; or stopped, with the refusal, the unit and the step, both counted from 1; or refused before anything was written.
-#[derive(Drop)]
+#[derive(Clone, Copy)]
 pub enum Ran {
     Finished(Finish),
     Stopped(u8, usize, usize),

@@ -14,14 +14,14 @@ use marks::Mark;
 use plane::Vec2;
 use walk::{Advanced, StepAnswer, Walk};
 
-#[derive(Drop)]
+#[derive(Clone, Copy)]
 pub enum PlaceAnswer {
     Placed,
     Refused(u8),
 }
 
 // What placing answers, with the record that it leaves.
-#[derive(Drop)]
+#[derive(Clone, Copy)]
 pub struct Placing {
     pub answer: PlaceAnswer,
     pub walk: Walk,

@@ -10,7 +10,7 @@ use job_reader::ReadAnswer;
 use run::{Finish, Ran};
 
 // Finished; stopped at a step, with the refusal, the unit and the step, both counted from 1; or refused, with the byte where the field starts (0 beside 21).
-#[derive(Drop)]
+#[derive(Clone, Copy)]
 pub enum Swept {
     Finished(Finish),
     Stopped(u8, usize, usize),

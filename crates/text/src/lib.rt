@@ -78,7 +78,7 @@ pub fn put_signed(run: &mut [u8], at: usize, z: i64) -> usize
 }
 
 // What a text in base ten says: a number of 32 bits, or nothing that can be read.
-#[derive(Drop)]
+#[derive(Clone, Copy)]
 pub enum Decimal {
     Number(u32),
     Unreadable,

@@ -6,7 +6,7 @@ use marks::Mark;
 use trial_tools::reading::Cursor;
 
 // How many entries stand at the start of an array.
-#[derive(Drop)]
+#[derive(Clone, Copy)]
 pub struct Run {
     pub count: usize,
     pub next: Cursor,

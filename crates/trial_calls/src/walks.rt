@@ -5,7 +5,7 @@ use trial_tools::reading::Cursor;
 use walk::{StepAnswer, Walk};
 
 // What a call answered: 0 or the refusal's number, the unit that it names or 0, and the record.
-#[derive(Drop)]
+#[derive(Clone, Copy)]
 pub struct Told {
     pub number: u8,
     pub unit: usize,

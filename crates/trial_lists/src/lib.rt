@@ -4,7 +4,7 @@ use ranking::{Listed, Setting};
 use trial_tools::reading::Cursor;
 
 // What a line says of the bogie: the first wheelbase, what each next setting adds, and how many there are.
-#[derive(Drop)]
+#[derive(Clone, Copy)]
 struct Rail {
     lowest: u32,
     pitch: u32,

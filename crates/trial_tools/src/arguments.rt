@@ -4,61 +4,61 @@ use job::{Body, Curve, Element, Form, Job, Side, Start, Unit, Vehicle};
 use plane::Vec2;
 use walk::Walk;
 
-#[derive(Drop)]
+#[derive(Clone, Copy)]
 pub struct BodyRead {
     pub body: Body,
     pub next: Cursor,
 }
 
-#[derive(Drop)]
+#[derive(Clone, Copy)]
 pub struct UnitRead {
     pub unit: Unit,
     pub next: Cursor,
 }
 
-#[derive(Drop)]
+#[derive(Clone, Copy)]
 pub struct FormRead {
     pub form: Form,
     pub next: Cursor,
 }
 
-#[derive(Drop)]
+#[derive(Clone, Copy)]
 pub struct VehicleRead {
     pub vehicle: Vehicle,
     pub next: Cursor,
 }
 
-#[derive(Drop)]
+#[derive(Clone, Copy)]
 pub struct VectorRead {
     pub vector: Vec2,
     pub next: Cursor,
 }
 
-#[derive(Drop)]
+#[derive(Clone, Copy)]
 pub struct WalkRead {
     pub walk: Walk,
     pub next: Cursor,
 }
 
-#[derive(Drop)]
+#[derive(Clone, Copy)]
 pub struct StartRead {
     pub start: Start,
     pub next: Cursor,
 }
 
-#[derive(Drop)]
+#[derive(Clone, Copy)]
 pub struct ElementRead {
     pub element: Element,
     pub next: Cursor,
 }
 
-#[derive(Drop)]
+#[derive(Clone, Copy)]
 pub struct ElementsRead {
     pub elements: [Element; 64],
     pub next: Cursor,
 }
 
-#[derive(Drop)]
+#[derive(Clone, Copy)]
 pub struct JobRead {
     pub job: Job,
     pub next: Cursor,

@@ -2,7 +2,7 @@
 use plane::Vec2;
 
 // A figure of the table: whole ticks, or a question mark where none could be read; and the position after it.
-#[derive(Drop)]
+#[derive(Clone, Copy)]
 pub struct Figure {
     pub legible: bool,
     pub negative: bool,
@@ -11,7 +11,7 @@ pub struct Figure {
 }
 
 // A place that is printed, and the position after it.
-#[derive(Drop)]
+#[derive(Clone, Copy)]
 pub struct Cell {
     pub legible: bool,
     pub place: Vec2,

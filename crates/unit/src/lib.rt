@@ -11,7 +11,7 @@ use plane::Vec2;
 mod mirror;
 
 // What the turn of a single unit answers: the new vector, or the number of the refusal.
-#[derive(Drop)]
+#[derive(Clone, Copy)]
 pub enum UnitTurn {
     Turned(Vec2),
     Refused(u8),

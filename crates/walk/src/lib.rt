@@ -10,7 +10,7 @@ pub mod tests;
 pub mod units;
 
 // How far a rig has come: its vehicle, the station reached, and a vector for each unit from rear axle to front point.
-#[derive(Drop)]
+#[derive(Clone, Copy)]
 pub struct Walk {
     pub vehicle: Vehicle,
     pub station: usize,
@@ -18,7 +18,7 @@ pub struct Walk {
 }
 
 // What a step answers: made, refused, or refused at a unit, counted from 1.
-#[derive(Drop)]
+#[derive(Clone, Copy)]
 pub enum StepAnswer {
     Made,
     Refused(u8),
@@ -26,21 +26,21 @@ pub enum StepAnswer {
 }
 
 // Whether all units turned, or the refusal and the unit, counted from 1.
-#[derive(Drop)]
+#[derive(Clone, Copy)]
 pub enum Turns {
     All,
     Stopped(u8, usize),
 }
 
 // The vectors of the units after a step, or as they were where one was refused.
-#[derive(Drop)]
+#[derive(Clone, Copy)]
 pub struct UnitsTurned {
     pub turns: Turns,
     pub d: [Vec2; 4],
 }
 
 // What a step answers, with the record that it leaves.
-#[derive(Drop)]
+#[derive(Clone, Copy)]
 pub struct Advanced {
     pub answer: StepAnswer,
     pub walk: Walk,

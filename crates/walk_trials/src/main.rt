@@ -6,7 +6,7 @@ use trial_tools::rigs;
 use walk::{StepAnswer, Walk};
 
 // The steps that a walk made, and the record that it ends with.
-#[derive(Drop)]
+#[derive(Clone, Copy)]
 pub struct Walked {
     pub made: usize,
     pub walk: Walk,
