@@ -2,6 +2,7 @@
 // answers and every entry of the lent runs is held to the line.
 // A line is the kind of the call, what is handed over, ` = ` and what is answered, a run being its length and then its entries. The answer begins
 // with the refusal's number or 0; beside a refusal what is answered by value stands as zeros, and a record or a run as it was handed in.
+#![tactic(auto)]
 mod others;
 
 ghost use Rattle.std.specs.Prelude.{◌≡◌, ◌<◌, length};

@@ -1,6 +1,7 @@
 // What geometry says of slow turning, apart from any printed table. On a circle the rear axles run at radii that are square roots; on the straight after
 // a bend the tangent of half the angle between the first unit and the path falls by an exponential.
 // Both stand in the table, data/table.txt, which tools/physics.py writes and explains: rigs are walked along its jobs and held to it, in whole numbers.
+#![tactic(auto)]
 mod measure;
 
 use job::{Job, Vehicle};

@@ -1,4 +1,5 @@
 // The job: its types, what its fields may hold, and the test of a job handed over by value.
+#![tactic(auto)]
 mod measures;
 mod rows;
 

@@ -1,5 +1,6 @@
 // Sweeps every job of two tables and compares what is printed with what should be. A line has a job's bytes in hexadecimal digits ("-" for none),
 // a space, and the text, with "/" for each line feed.
+#![tactic(auto)]
 ghost use Rattle.std.specs.Prelude.{◌≤◌, length};
 
 use answer_text::Text;

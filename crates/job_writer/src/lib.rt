@@ -1,4 +1,5 @@
 // Writing a job: its faults first, then the room, then its one encoding.
+#![tactic(auto)]
 mod encode;
 
 ghost use Rattle.std.specs.Prelude.{◌≡◌, ◌≤◌, length, take};

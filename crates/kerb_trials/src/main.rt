@@ -1,6 +1,7 @@
 // Kerbs read and reported on, one call to a line of a table that was computed apart from this code: each is made, and every number that it
 // answers and every entry of the lent runs is held to the line.
 // A line is the kind of the call, what is handed over, ` = ` and what is answered, a run being its length and then its entries.
+#![tactic(auto)]
 mod calls;
 
 ghost use Rattle.std.specs.Prelude.{◌≡◌, ◌<◌, length};

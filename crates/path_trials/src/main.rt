@@ -1,4 +1,5 @@
 // Lays document 002's sample path, its half turn and the longest jobs, and checks where they end and what is refused.
+#![tactic(auto)]
 ghost use Rattle.std.specs.Prelude.{◌≡◌};
 ghost use Rattle.path.specs.Laying.{path_runs, lay_answer};
 ghost use Rattle.path_trials.specs.Ends.{end_of, refusal_of, Measurable, BothMeasurable};

@@ -1,4 +1,5 @@
 // The points of a rig that are measured at the stations.
+#![tactic(auto)]
 mod corners;
 
 ghost use Rattle.std.specs.Prelude.{◌≡◌};

@@ -1,5 +1,6 @@
 // Every end of the field table and one beyond it, each in a record that is right in all other fields: read, and written back where it is accepted.
 // The cases stand on standard input, one to a line.
+#![tactic(auto)]
 mod records;
 
 use crate::records::Case;

@@ -1,5 +1,6 @@
 // The best settings of a sliding bogie: a job from standard input, as `sweep` reads it, and the lowest wheelbase, the pitch and the number of settings as arguments.
 // What cannot be read or written is told on standard error, because a program's status is always 0.
+#![tactic(auto)]
 ghost use Rattle.offered.specs.Offered.{offered_of};
 ghost use Rattle.answer_text.specs.Answers.{TextIs};
 ghost use Rattle.answer_text.specs.Settings.{printed_settings};

@@ -1,5 +1,6 @@
 // Walks document 002's rig round its full turn of 7.5 m and compares its points, step by step, with the table that the document prints.
 // The table, crates/turn_trials/data/table.txt, lies in the folder that the program is run in; docs/TABLE.md says how it was read.
+#![tactic(auto)]
 mod spread;
 mod table;
 

@@ -1,4 +1,5 @@
 // Walks three rigs from the first station of their paths to the last, and checks how many steps they make and where they are widest.
+#![tactic(auto)]
 use job::{Form, Job, Vehicle};
 use path::Laid;
 use reaches::{Place, WidestAnswer};

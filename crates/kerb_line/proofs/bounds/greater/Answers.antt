@@ -1,0 +1,20 @@
+-- `kerb_line::bounds::greater` meets its contract.
+use mathlib.Core.Path.{◌≡◌}
+use borrow.Author.Rules.{rules}
+use Rattle.exact.proofs.Machine.{reread}
+
+use Rattle.kerb_line.proofs.bounds.greater.Goals as goal
+use Rattle.kerb_line.proofs.bounds.greater.Goals.{Start}
+
+module _ (c : Start) where
+  exact_a : reread c.args.a ≡ c.args.a
+  exact_a = search rules
+
+  exact_b : reread c.args.b ≡ c.args.b
+  exact_b = search rules
+
+pub returns-then-a-b : goal.returns-then-a-b
+returns-then-a-b c = let s = c.before in rw (exact_b s, rw (exact_a s, exact_b s) at c.if-a-b.true)
+
+pub returns-else-a-b : goal.returns-else-a-b
+returns-else-a-b c = let s = c.before in rw (exact_a s, rw (exact_a s, exact_b s) at c.if-a-b.false)

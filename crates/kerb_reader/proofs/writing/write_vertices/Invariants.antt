@@ -1,0 +1,10 @@
+-- `kerb_reader::writing::write_vertices` meets its contract: after the first vertex, those from i on are still to be written.
+use Prim.Native.Nat.{◌-◌}
+use Rattle.kerb_reader.proofs.WriteLaws.{Writing}
+use Rattle.kerb_reader.proofs.writing.write_vertices.Given as goal
+
+abbrev pub invariant-loop-i : goal.invariant-loop-i
+invariant-loop-i l = Writing l.vertices l.count l.initial.xs l.initial.ys l.xs l.ys l.i
+
+abbrev pub decreases-loop-i : goal.decreases-loop-i
+decreases-loop-i l = l.count - l.i

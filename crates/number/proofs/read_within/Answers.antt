@@ -1,0 +1,19 @@
+-- `number::read_within` meets its contract. Assumes nothing.
+use mathlib.Core.Path.{sym, ◌∙◌}
+use Rattle.number.specs.Field.{field}
+
+use Rattle.number.proofs.read_within.Goals as goal
+
+pub returns-in_default : goal.returns-in_default
+unfolding field
+returns-in_default c = rw (← c.read-a.ensures, c.in_default.is)
+
+pub returns-then-is_within : goal.returns-then-is_within
+unfolding field
+returns-then-is_within c = let a = c.before.before.before in
+    rw (← a.read-a.ensures, a.in-Value.is, sym c.is_within.ensures ∙ c.if-is_within.true)
+
+pub returns : goal.returns
+unfolding field
+returns c = let a = c.before.before.before in
+    rw (← a.read-a.ensures, a.in-Value.is, sym c.is_within.ensures ∙ c.if-is_within.false)

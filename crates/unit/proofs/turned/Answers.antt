@@ -1,0 +1,26 @@
+-- `unit::turned` meets its contract: the mirror image can be settled.
+use mathlib.Core.Path.{◌≡◌, sym, subst₂}
+use borrow.Author.Rules.{rules}
+use Rattle.exact.proofs.Machine.{reread}
+use Rattle.plane.specs.Settle.{Settleable}
+use Rattle.unit.specs.Turn.{turned_by}
+use Rattle.unit.proofs.Turning.{mirrored_settleable}
+use Rattle.unit.proofs.UnitSizes.{turnable_mirrorable}
+
+use Rattle.unit.proofs.turned.Goals as goal
+use Rattle.unit.proofs.turned.Goals.{Start}
+
+exact_l : (c : Start) → reread c.args.l ≡ c.args.l
+exact_l c = search rules
+
+pub mirrored_vector-e-requires : goal.mirrored_vector-e-requires
+mirrored_vector-e-requires c = turnable_mirrorable c.args.d c.args.f c.args.l c.requires
+
+pub settle-requires : goal.settle-requires
+settle-requires c =
+    let s = c.before in
+    subst₂ Settleable (sym c.mirrored_vector-e.ensures) (sym (exact_l s)) (mirrored_settleable s.args.d s.args.f s.args.l s.requires)
+
+pub returns : goal.returns
+unfolding turned_by
+returns c = cc (exact_l c.before.before)
