@@ -31,18 +31,18 @@ returns-then-fault-ne0 c = rw (← c.vehicle_fault-fault.ensures) (sym (first_of
 
 pub returns-then-not-start_allowed : goal.returns-then-not-start_allowed
 unfolding judge
-returns-then-not-start_allowed c = rw (vehicle c.before.before, sym c.start_allowed.ensures ∙ c.if-not-start_allowed.true)
+returns-then-not-start_allowed c = rw (vehicle c.before.before.before, sym c.start_allowed.ensures ∙ c.if-not-start_allowed.true)
 
 pub returns-then-not-is_within : goal.returns-then-not-is_within
 unfolding judge
 returns-then-not-is_within c = let s = c.before.before in
-    rw (vehicle s.before.before, start s, sym c.is_within.ensures ∙ c.if-not-is_within.true)
+    rw (vehicle s.before.before.before, start s, sym c.is_within.ensures ∙ c.if-not-is_within.true)
 
 pub returns-then-not-is_within_count : goal.returns-then-not-is_within_count
 unfolding judge
 returns-then-not-is_within_count c = let d = c.before.before in
     let s = d.before.before in
-    rw (vehicle s.before.before, start s, step d, sym c.is_within_count.ensures ∙ c.if-not-is_within_count.true)
+    rw (vehicle s.before.before.before, start s, step d, sym c.is_within_count.ensures ∙ c.if-not-is_within_count.true)
 
 pub elements_fault-requires : goal.elements_fault-requires
 elements_fault-requires c = let n = c.before in
@@ -58,4 +58,4 @@ unfolding judge
 returns c = let n = c.before.before in
     let d = n.before.before in
     let s = d.before.before in
-    rw (c.elements_fault.ensures, vehicle s.before.before, start s, step d, count n)
+    rw (c.elements_fault.ensures, vehicle s.before.before.before, start s, step d, count n)

@@ -19,7 +19,7 @@ bounds-run-i c = omega (arith, c.requires.fits, c.loop-i.invariant.2.long)
 pub loop-i-preserved : goal.loop-i-preserved
 loop-i-preserved c = let l = c.loop-i in
     let a = c.args in
-    (omega arith, l.invariant.1, wrote _ 0 _ l.run l.i _ _ _ (next_of a.t2 a.count l.i 0 (omega (arith, l.invariant.1, c.requires.most)) c.loop-i-test.true) l.invariant.2)
+    (omega arith, l.invariant.1, wrote _ 0 _ l.run l.i _ _ _ (next_of a.bytes a.count l.i 0 (omega (arith, l.invariant.1, c.requires.most)) c.loop-i-test.true) l.invariant.2)
 
 pub shape_of-run : goal.shape_of-run
 shape_of-run c = c.loop-i.invariant.2.long
@@ -27,4 +27,4 @@ shape_of-run c = c.loop-i.invariant.2.long
 pub returns : goal.returns
 returns c = let l = c.loop-i in
     let a = c.args in
-    (finish _ 0 _ l.run l.i _ (none_of a.t2 a.count l.i c.loop-i-test.false) l.invariant.2).1
+    (finish _ 0 _ l.run l.i _ (none_of a.bytes a.count l.i c.loop-i-test.false) l.invariant.2).1

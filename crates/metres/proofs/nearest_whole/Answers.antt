@@ -24,7 +24,7 @@ use Rattle.metres.proofs.nearest_whole.Goals.{Else-exponent-lt1013, Start}
 
 -- what owning an `f64` tells: the format holds it
 held : (c : Start) → T (fits binary64 c.args.p)
-held c = subst T (sym c.well-formed.0.1) tt
+held c = subst T (sym c.well_formed.0.1) tt
 
 pub float_to_bits-bits : goal.float_to_bits-bits
 float_to_bits-bits c = sized_no_nan 150000000 c.args.p c.requires.sized

@@ -21,19 +21,19 @@ tally_element-total-requires c =
     let l = c.before.before in
     let p = l.requires in
     let a = l.args in
-    let g = total_grows a.step l.loop-i.total (drop l.loop-i.i (take a.count a.t1)) in
+    let g = total_grows a.step l.loop-i.total (drop l.loop-i.i (take a.count a.elements)) in
     record { positive = omega (arith, p.least); room = omega (arith, g, l.loop-i.invariant.2, p.total) }
 
 pub loop-i-preserved : goal.loop-i-preserved
 loop-i-preserved c =
     let l = c.before.before.before in
     let a = l.args in
-    let t : c.tally_element-total.result ≡ tally a.step l.loop-i.total (get_or a.t1 l.loop-i.i empty_element) = c.tally_element-total.ensures in
-    let next = total_next a.step l.loop-i.total a.t1 a.count l.loop-i.i (omega (arith, l.loop-i.invariant.1, l.requires.places)) c.loop-i-test.true in
+    let t : c.tally_element-total.result ≡ tally a.step l.loop-i.total (get_or a.elements l.loop-i.i empty_element) = c.tally_element-total.ensures in
+    let next = total_next a.step l.loop-i.total a.elements a.count l.loop-i.i (omega (arith, l.loop-i.invariant.1, l.requires.places)) c.loop-i-test.true in
     (omega arith, l.loop-i.invariant.1, rw t (sym next ∙ l.loop-i.invariant.2))
 
 pub returns : goal.returns
 returns c =
     let l = c.before in
     let a = l.args in
-    sym (total_end a.step l.loop-i.total a.t1 a.count l.loop-i.i c.loop-i-test.false) ∙ l.loop-i.invariant.2
+    sym (total_end a.step l.loop-i.total a.elements a.count l.loop-i.i c.loop-i-test.false) ∙ l.loop-i.invariant.2

@@ -63,5 +63,5 @@ returns c = let l = c.before.before.before.before in
     let a = (s l).args in
     let ended : l.loop-i.i ≡ a.v.count - 1 = omega arith in
     rw c.place_of-2.ensures
-    (sym (placed_all a.v.units a.t2 (last l + 1) (last l + 1) _ _ (omega arith)) ∙ more l (last l) (omega arith) ∙ (rw ended at l.loop-i.invariant.2)
-    ∙ ap (λ (n : ℕ). sets no_places 0 (unit_places (take n a.v.units) a.t2 a.front)) (whole l))
+    (sym (placed_all a.v.units a.d (last l + 1) (last l + 1) _ _ (omega arith)) ∙ more l (last l) (omega arith) ∙ (rw ended at l.loop-i.invariant.2)
+    ∙ ap (λ (n : ℕ). sets no_places 0 (unit_places (take n a.v.units) a.d a.front)) (whole l))

@@ -123,7 +123,7 @@ module _ (c : In-loop-i) where
   exact_beside : beside ≡ c.pair_spread-beside.result
   exact_beside = search rules
 
-  at_station : let a = (s c.before).args in AtStation c.loop-i.i here a.count a.t7 a.news (get_or a.t7 (a.count / 2) zero_vector) near beside (so_far c.before)
+  at_station : let a = (s c.before).args in AtStation c.loop-i.i here a.count a.olds a.news (get_or a.olds (a.count / 2) zero_vector) near beside (so_far c.before)
   at_station =
       let r = same_room (lengths c.before) (s c.before).requires.room in
       let t = c.loop-i-test.true in
@@ -135,8 +135,8 @@ cross_station-requires c =
     let i = m.before in
     let l = i.before in
     let a = (s l).args in
-    subst (λ (p : Station). AtStation l.loop-i.i p a.count (from l.before) (to l.before) (get_or a.t7 (a.count / 2) zero_vector) (near i) (beside i) (so_far l)) (sym m.station_at-s.ensures)
-    (subst₂ (λ (o n : List Vec2). AtStation l.loop-i.i (here i) a.count o n (get_or a.t7 (a.count / 2) zero_vector) (near i) (beside i) (so_far l)) (sym (from_is l.before)) (sym (to_is l.before)) (at_station i))
+    subst (λ (p : Station). AtStation l.loop-i.i p a.count (from l.before) (to l.before) (get_or a.olds (a.count / 2) zero_vector) (near i) (beside i) (so_far l)) (sym m.station_at-s.ensures)
+    (subst₂ (λ (o n : List Vec2). AtStation l.loop-i.i (here i) a.count o n (get_or a.olds (a.count / 2) zero_vector) (near i) (beside i) (so_far l)) (sym (from_is l.before)) (sym (to_is l.before)) (at_station i))
 
 pub overflow_add-i : goal.overflow_add-i
 overflow_add-i c =

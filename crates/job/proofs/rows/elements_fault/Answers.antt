@@ -17,13 +17,13 @@ use Rattle.job.proofs.rows.elements_fault.Goals.{After-element_allowed, After-st
 turn : (c : After-element_allowed) →
     let l = c.loop-i in
     let a = c.args in
-    let e = get_or a.t1 l.i empty_element in
-    first_of (or_fault c.element_allowed.result 8 0) (left a.step a.count a.t1 (tally a.step l.total e) (l.i + 1)) ≡ left a.step a.count a.t1 0 0
+    let e = get_or a.elements l.i empty_element in
+    first_of (or_fault c.element_allowed.result 8 0) (left a.step a.count a.elements (tally a.step l.total e) (l.i + 1)) ≡ left a.step a.count a.elements 0 0
 turn c =
     let l = c.loop-i in
     let s = c.before.before.before.before in
     let a = s.args in
-    rw c.element_allowed.ensures (sym (fault_next element_fault (tally a.step) total_fault a.t1 a.count l.i l.total empty_element (omega (arith, s.requires.most, l.invariant.1)) c.loop-i-test.true) ∙ l.invariant.3)
+    rw c.element_allowed.ensures (sym (fault_next element_fault (tally a.step) total_fault a.elements a.count l.i l.total empty_element (omega (arith, s.requires.most, l.invariant.1)) c.loop-i-test.true) ∙ l.invariant.3)
 
 -- after the last element the total is tested
 done : (c : After-steps_allowed) →
@@ -32,7 +32,7 @@ done : (c : After-steps_allowed) →
 done c =
     let l = c.loop-i in
     let a = c.args in
-    sym (fault_end element_fault (tally a.step) total_fault a.t1 a.count l.i l.total c.loop-i-test.false) ∙ l.invariant.3
+    sym (fault_end element_fault (tally a.step) total_fault a.elements a.count l.i l.total c.loop-i-test.false) ∙ l.invariant.3
 
 pub loop-i-init : goal.loop-i-init
 loop-i-init c = (omega arith, search rules, omega arith, refl)
@@ -48,7 +48,7 @@ pub loop-i-preserved : goal.loop-i-preserved
 loop-i-preserved c = let q = c.before.before in
     let l = q.before.before.before in
     let a = l.args in
-    let e = get_or a.t1 l.loop-i.i empty_element in
+    let e = get_or a.elements l.loop-i.i empty_element in
     let t : c.tally_element-total.result ≡ tally a.step l.loop-i.total e = c.tally_element-total.ensures in (
       omega arith,
       l.loop-i.invariant.1,

@@ -14,12 +14,12 @@ use Rattle.job.proofs.rows.units_fault.Goals.{After-unit_fault-fault}
 turn : (c : After-unit_fault-fault) →
     let l = c.loop-i in
     let a = c.args in
-    first_of c.unit_fault-fault.result (left a.form a.count a.t2 (l.i + 1)) ≡ left a.form a.count a.t2 0
+    first_of c.unit_fault-fault.result (left a.form a.count a.units (l.i + 1)) ≡ left a.form a.count a.units 0
 turn c =
     let l = c.loop-i in
     let s = c.before.before.before.before in
     let a = s.args in
-    rw c.unit_fault-fault.ensures (sym (fault_next (unit_fault_at a.form a.count) (λ i u. i + 1) (λ i. 0) a.t2 a.count l.i l.i empty_unit (omega (arith, s.requires.most, l.invariant.1)) c.loop-i-test.true) ∙ l.invariant.2)
+    rw c.unit_fault-fault.ensures (sym (fault_next (unit_fault_at a.form a.count) (λ i u. i + 1) (λ i. 0) a.units a.count l.i l.i empty_unit (omega (arith, s.requires.most, l.invariant.1)) c.loop-i-test.true) ∙ l.invariant.2)
 
 pub loop-i-init : goal.loop-i-init
 loop-i-init c = (omega arith, search rules, refl)

@@ -20,7 +20,7 @@ put_element-out-requires c = let l = c.loop-i in
     let a = c.args in
     record {
       allowed = c.requires.allowed l.i c.loop-i-test.true;
-      ends = (run_room write_element a.t2 a.count _ l.out l.i empty_element (omega (arith, l.invariant.1, c.requires.most)) c.loop-i-test.true c.requires.ends l.invariant.2).ends;
+      ends = (run_room write_element a.elements a.count _ l.out l.i empty_element (omega (arith, l.invariant.1, c.requires.most)) c.loop-i-test.true c.requires.ends l.invariant.2).ends;
     }
 
 pub loop-i-preserved : goal.loop-i-preserved
@@ -28,10 +28,10 @@ loop-i-preserved c = let l = c.loop-i in
     let a = c.args in (
       omega arith,
       l.invariant.1,
-      run_next write_element a.t2 a.count _ l.out l.i empty_element (omega (arith, l.invariant.1, c.requires.most)) c.loop-i-test.true c.put_element-out.ensures l.invariant.2,
+      run_next write_element a.elements a.count _ l.out l.i empty_element (omega (arith, l.invariant.1, c.requires.most)) c.loop-i-test.true c.put_element-out.ensures l.invariant.2,
     )
 
 pub returns : goal.returns
 returns c = let l = c.loop-i in
     let a = c.args in
-    run_end write_element a.t2 a.count _ l.out l.i c.loop-i-test.false l.invariant.2
+    run_end write_element a.elements a.count _ l.out l.i c.loop-i-test.false l.invariant.2

@@ -18,17 +18,17 @@ bounds-units-i c = omega (arith, c.requires.most)
 pub put_unit-out-requires : goal.put_unit-out-requires
 put_unit-out-requires c = let l = c.loop-i in
     let a = c.args in
-    run_room (write_unit a.form) a.t3 a.count _ l.out l.i empty_unit (omega (arith, l.invariant.1, c.requires.most)) c.loop-i-test.true c.requires.ends l.invariant.2
+    run_room (write_unit a.form) a.units a.count _ l.out l.i empty_unit (omega (arith, l.invariant.1, c.requires.most)) c.loop-i-test.true c.requires.ends l.invariant.2
 
 pub loop-i-preserved : goal.loop-i-preserved
 loop-i-preserved c = let l = c.loop-i in
     let a = c.args in (
       omega arith,
       l.invariant.1,
-      run_next (write_unit a.form) a.t3 a.count _ l.out l.i empty_unit (omega (arith, l.invariant.1, c.requires.most)) c.loop-i-test.true c.put_unit-out.ensures l.invariant.2,
+      run_next (write_unit a.form) a.units a.count _ l.out l.i empty_unit (omega (arith, l.invariant.1, c.requires.most)) c.loop-i-test.true c.put_unit-out.ensures l.invariant.2,
     )
 
 pub returns : goal.returns
 returns c = let l = c.loop-i in
     let a = c.args in
-    run_end (write_unit a.form) a.t3 a.count _ l.out l.i c.loop-i-test.false l.invariant.2
+    run_end (write_unit a.form) a.units a.count _ l.out l.i c.loop-i-test.false l.invariant.2

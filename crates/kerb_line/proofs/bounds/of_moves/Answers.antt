@@ -18,13 +18,13 @@ pub loop-p-preserved : goal.loop-p-preserved
 loop-p-preserved c =
     let l = c.before.before.before.before.before in
     let a = l.args in
-    let new = get_or a.t3 l.loop-p.p origin in
+    let new = get_or a.news l.loop-p.p origin in
     let e = c.widened-b.ensures ∙ ap (λ (b : Bounds). widened b new) c.widened.ensures in
-    (search rules, subst (λ (b : Bounds). Enclosed b (l.loop-p.p + 1) a.t2 a.t3) (sym e) (enclosed_next l.loop-p.b l.loop-p.p a.t2 a.t3 l.loop-p.invariant.1))
+    (search rules, subst (λ (b : Bounds). Enclosed b (l.loop-p.p + 1) a.olds a.news) (sym e) (enclosed_next l.loop-p.b l.loop-p.p a.olds a.news l.loop-p.invariant.1))
 
 pub returns : goal.returns
 returns c =
     let l = c.before in
     let a = l.args in
     let e : l.loop-p.p ≡ a.count = omega (arith, l.loop-p.invariant.0, c.loop-p-test.false) in
-    subst (λ (n : ℕ). Enclosed l.loop-p.b n a.t2 a.t3) e l.loop-p.invariant.1
+    subst (λ (n : ℕ). Enclosed l.loop-p.b n a.olds a.news) e l.loop-p.invariant.1

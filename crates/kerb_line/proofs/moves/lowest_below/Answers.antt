@@ -34,4 +34,4 @@ returns c =
     let l = c.before in
     let a = l.args in
     let e : l.loop-p.p ≡ a.best = omega (arith, l.loop-p.invariant.0, c.loop-p-test.false) in
-    none_lowest a.best (move_touches a.t2 a.t3 a.v a.w) (subst (λ (n : ℕ). (q : ℕ) → q < n → move_touches a.t2 a.t3 a.v a.w q ≡ false) e l.loop-p.invariant.1)
+    none_lowest a.best (move_touches a.olds a.news a.v a.w) (subst (λ (n : ℕ). (q : ℕ) → q < n → move_touches a.olds a.news a.v a.w q ≡ false) e l.loop-p.invariant.1)

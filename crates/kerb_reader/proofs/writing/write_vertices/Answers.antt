@@ -105,6 +105,6 @@ returns c =
     let h = c.before.before in
     let a = (s h).args in
     record {
-      east = written_east c.loop-i-test.false c.loop-i.invariant ∙ ap (λ (run : List ℤ). sets run 1 (map east_of (drop 1 (take a.count a.t2)))) (first_east h);
-      north = written_north c.loop-i-test.false c.loop-i.invariant ∙ ap (λ (run : List ℤ). sets run 1 (map north_of (drop 1 (take a.count a.t2)))) (first_north h);
+      east = written_east c.loop-i-test.false c.loop-i.invariant ∙ ap (λ (run : List ℤ). sets run 1 (map east_of (drop 1 (take a.count a.vertices)))) (first_east h);
+      north = written_north c.loop-i-test.false c.loop-i.invariant ∙ ap (λ (run : List ℤ). sets run 1 (map north_of (drop 1 (take a.count a.vertices)))) (first_north h);
     }

@@ -104,4 +104,4 @@ returns c =
     let l = c.before in
     let a = l.args in
     let e : l.loop-k.k ≡ a.pairs = omega (arith, l.loop-k.invariant.0, c.loop-k-test.false) in
-    subst (λ (n : ℕ). PairSpread n a.t2 a.t3 (to_z w64 l.loop-k.most)) e l.loop-k.invariant.1
+    subst (λ (n : ℕ). PairSpread n a.olds a.news (to_z w64 l.loop-k.most)) e l.loop-k.invariant.1

@@ -67,4 +67,4 @@ returns c =
     let l = c.before in
     let a = l.args in
     let e : l.loop-p.p ≡ a.count = omega (arith, l.loop-p.invariant.0, c.loop-p-test.false) in
-    subst (λ (n : ℕ). Spread a.from n a.t3 a.t4 (to_z w64 l.loop-p.most)) e l.loop-p.invariant.1
+    subst (λ (n : ℕ). Spread a.from n a.olds a.news (to_z w64 l.loop-p.most)) e l.loop-p.invariant.1

@@ -16,12 +16,12 @@ use Rattle.walk.proofs.tests.vectors_sound.Goals.{After-vector_sound}
 turn : (c : After-vector_sound) →
     let l = c.loop-k in
     let a = c.args in
-    (c.vector_sound.result && left a.v a.t2 (l.k + 1)) ≡ vectors_sound (units_in_use a.v) a.t2
+    (c.vector_sound.result && left a.v a.d (l.k + 1)) ≡ vectors_sound (units_in_use a.v) a.d
 turn c =
     let i = c.before.before in
     let l = i.loop-k in
     let a = i.args in
-    rw c.vector_sound.ensures (sym (vectors_next (units_in_use a.v) a.t2 l.k (omega (arith, l.invariant.1, i.loop-k-test.true))) ∙ l.invariant.2)
+    rw c.vector_sound.ensures (sym (vectors_next (units_in_use a.v) a.d l.k (omega (arith, l.invariant.1, i.loop-k-test.true))) ∙ l.invariant.2)
 
 pub loop-k-init : goal.loop-k-init
 loop-k-init c = (omega arith, search rules, refl)
@@ -37,4 +37,4 @@ returns c =
     let l = c.loop-k in
     let a = c.args in
     let u = units_counted a.v c.requires.sound in
-    sym (vectors_end (units_in_use a.v) a.t2 l.k (omega (arith, u.1, length-take a.v.count a.v.units, c.loop-k-test.false)) (omega (arith, l.invariant.1, c.loop-k-test.false))) ∙ l.invariant.2
+    sym (vectors_end (units_in_use a.v) a.d l.k (omega (arith, u.1, length-take a.v.count a.v.units, c.loop-k-test.false)) (omega (arith, l.invariant.1, c.loop-k-test.false))) ∙ l.invariant.2
