@@ -63,20 +63,20 @@ returns-in_default-b c = record {
 pub returns-in_default-d : goal.returns-in_default-d
 unfolding read_job read_record
 returns-in_default-d c = record {
-  answer = rw (c.refused_job-in_default-d.ensures, c.passed_refusal-in_default-d.ensures, ← vehicle c.before.before.before.before.before.before.before.before.before, c.in-At.is, ← start c.before.before.before.before.before.before.before, c.in-At-b.is, ← path c.before.before.before.before, c.in_default-d.is);
-  bytes = bytes c.before.before.before.before.before.before.before.before.before;
+  answer = rw (c.refused_job-in_default-d.ensures, c.passed_refusal-in_default-d.ensures, ← vehicle c.before.before.before.before.before.before.before.before.before.before, c.in-At.is, ← start c.before.before.before.before.before.before.before.before, c.in-At-b.is, ← path c.before.before.before.before, c.in_default-d.is);
+  bytes = bytes c.before.before.before.before.before.before.before.before.before.before.before;
 }
 
 pub returns-then-end-s : goal.returns-then-end-s
 unfolding read_job read_record
 returns-then-end-s c = record {
-  answer = rw (← vehicle c.before.before.before.before.before.before.before.before.before, c.in-At.is, ← start c.before.before.before.before.before.before.before, c.in-At-b.is, ← path c.before.before.before.before, c.in-At-d.is, eq-eqb _ _ c.if-end-s.true);
-  bytes = bytes c.before.before.before.before.before.before.before.before.before;
+  answer = rw (← vehicle c.before.before.before.before.before.before.before.before.before.before, c.in-At.is, ← start c.before.before.before.before.before.before.before.before, c.in-At-b.is, ← path c.before.before.before.before, c.in-At-d.is, eq-eqb _ _ c.if-end-s.true);
+  bytes = bytes c.before.before.before.before.before.before.before.before.before.before.before;
 }
 
 pub returns : goal.returns
 unfolding read_job read_record
 returns c = record {
-  answer = rw (c.refused_job-2.ensures, ← vehicle c.before.before.before.before.before.before.before.before.before, c.in-At.is, ← start c.before.before.before.before.before.before.before, c.in-At-b.is, ← path c.before.before.before.before, c.in-At-d.is, ne_eqb _ _ c.if-end-s.false);
-  bytes = bytes c.before.before.before.before.before.before.before.before.before;
+  answer = rw (c.refused_job-2.ensures, ← vehicle c.before.before.before.before.before.before.before.before.before.before, c.in-At.is, ← start c.before.before.before.before.before.before.before.before, c.in-At-b.is, ← path c.before.before.before.before, c.in-At-d.is, ne_eqb _ _ c.if-end-s.false);
+  bytes = bytes c.before.before.before.before.before.before.before.before.before.before.before;
 }

@@ -26,14 +26,14 @@ returns-in-Vertices c = let k = c.before.before.before.before in
     let s = start r in
     let xs = r.read_kerb-kerb.new.1.0 in
     let ys = r.read_kerb-kerb.new.1.1.0 in
-    read_told s.args.j s.pre.judged s.args.geometry.now _ xs ys _ (subst (λ (x : KerbRead). KerbEnsures s.args.geometry.now no_ticks no_ticks x xs ys) k.in-Vertices.is r.read_kerb-kerb.ensures) c.report_job.ensures
+    read_told s.args.j s.requires.judged s.args.geometry.now _ xs ys _ (subst (λ (x : KerbRead). KerbEnsures s.args.geometry.now no_ticks no_ticks x xs ys) k.in-Vertices.is r.read_kerb-kerb.ensures) c.report_job.ensures
 
 pub returns-in-RefusedAt : goal.returns-in-RefusedAt
 unfolding no_ticks
 returns-in-RefusedAt c = let k = c.before in
     let r = k.before.before.before in
     let s = start r in
-    refused_told_so s.args.j s.pre.judged s.args.geometry.now _ _ (sym k.in-RefusedAt.is ∙ r.read_kerb-kerb.ensures.answer)
+    refused_told_so s.args.j s.requires.judged s.args.geometry.now _ _ (sym k.in-RefusedAt.is ∙ r.read_kerb-kerb.ensures.answer)
 
 pub returns-in-Refused : goal.returns-in-Refused
 unfolding no_ticks

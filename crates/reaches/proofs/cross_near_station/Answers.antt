@@ -36,10 +36,10 @@ at_most {a} e h = subst (λ (z : ℤ). a ≤ℤ z) (sym e) h
 
 -- both points of a pair are there
 left_there : (i : In-loop-k) → 2 * i.loop-k.k < (start i.before).args.count
-left_there i = let h = i.loop-k-test.true in omega (arith, h, (start i.before).pre.even)
+left_there i = let h = i.loop-k-test.true in omega (arith, h, (start i.before).requires.even)
 
 right_there : (i : In-loop-k) → 2 * i.loop-k.k + 1 < (start i.before).args.count
-right_there i = let h = i.loop-k-test.true in omega (arith, h, (start i.before).pre.even)
+right_there i = let h = i.loop-k-test.true in omega (arith, h, (start i.before).requires.even)
 
 pub loop-k-init : goal.loop-k-init
 loop-k-init c = (omega arith, refl, refl, refl, refl)
@@ -50,14 +50,14 @@ pair_crosses-requires c =
     let s = start c.before in
     let r = right_there c in
     record {
-      room = record { place = omega (arith, r, s.pre.moves.room.most) };
+      room = record { place = omega (arith, r, s.requires.moves.room.most) };
       moves = record {
-        left = s.pre.moves.move _ (left_there c);
-        right = s.pre.moves.move _ r;
-        new_near = at_most (exact_beside s) (s.pre.pairs.new _ k);
-        old_right_near = at_most (exact_beside s) (s.pre.pairs.old_right _ k);
-        new_right_near = at_most (exact_beside s) (s.pre.pairs.new_right _ k);
-        size = subst (Within 640000000) (sym (exact_beside s)) s.pre.pairs.size;
+        left = s.requires.moves.move _ (left_there c);
+        right = s.requires.moves.move _ r;
+        new_near = at_most (exact_beside s) (s.requires.pairs.new _ k);
+        old_right_near = at_most (exact_beside s) (s.requires.pairs.old_right _ k);
+        new_right_near = at_most (exact_beside s) (s.requires.pairs.new_right _ k);
+        size = subst (Within 640000000) (sym (exact_beside s)) s.requires.pairs.size;
       };
     }
 
@@ -67,10 +67,10 @@ enter_station-requires c =
     let s = start l in
     let v = l.loop-k.invariant in
     record {
-      moves = s.pre.moves;
-      left = subst (λ (xs : List ℤ). s.args.i < length xs) (sym v.1) s.pre.left;
-      right = subst (λ (xs : List ℤ). s.args.i < length xs) (sym v.2) s.pre.right;
-      marks = subst (λ (xs : List ℕ). s.args.i < length xs) (sym v.3) s.pre.marks;
+      moves = s.requires.moves;
+      left = subst (λ (xs : List ℤ). s.args.i < length xs) (sym v.1) s.requires.left;
+      right = subst (λ (xs : List ℤ). s.args.i < length xs) (sym v.2) s.requires.right;
+      marks = subst (λ (xs : List ℕ). s.args.i < length xs) (sym v.3) s.requires.marks;
     }
 
 -- one crosses: the runs are as the points leave them
@@ -111,7 +111,7 @@ loop-k-preserved c =
     let s = start l in
     let a = s.args in
     let v = l.loop-k.invariant in
-    let m = s.pre.moves in (
+    let m = s.requires.moves in (
       search rules,
       v.1,
       v.2,

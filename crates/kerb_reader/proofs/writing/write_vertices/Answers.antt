@@ -80,9 +80,9 @@ write_vertex-requires-in-loop-i c =
     let l = c.before.before.before in
     let w = l.loop-i.invariant in
     record {
-      within = subst VertexWithin (sym (read l)) ((s (g l)).pre.others (i l));
-      east = omega (arith, l.loop-i-test.true, (s (g l)).pre.east, w.east_length, east_length (g l));
-      north = omega (arith, l.loop-i-test.true, (s (g l)).pre.north, w.north_length, north_length (g l));
+      within = subst VertexWithin (sym (read l)) ((s (g l)).requires.others (i l));
+      east = omega (arith, l.loop-i-test.true, (s (g l)).requires.east, w.east_length, east_length (g l));
+      north = omega (arith, l.loop-i-test.true, (s (g l)).requires.north, w.north_length, north_length (g l));
     }
 
 pub loop-i-preserved : goal.loop-i-preserved
