@@ -36,7 +36,7 @@ module _ (c : After-lay-laid) where
   from = start passed.before
 
   none : list_refusal (j from) (rail from) (path from) (runs from) ≡ 0
-  none = sym passed.refusal_of-refusal.ensures ∙ passed.if-refusal-ne0.left
+  none = sym passed.refusal_of-refusal.ensures ∙ passed.if-refusal-ne0.false
 
   abbrev laid : PathRuns
   laid = path_runs c.lay-laid.new.1.0 c.lay-laid.new.1.1.0 c.lay-laid.new.1.1.1.0 c.lay-laid.new.1.1.1.1.0

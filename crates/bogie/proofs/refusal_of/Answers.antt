@@ -4,7 +4,6 @@ use mathlib.Core.Path.{◌≡◌, sym, ◌∙◌, ap}
 use mathlib.Core.Bool.{true, false}
 use native.Mathlib.Omega.{arith}
 use borrow.Author.Rules.{rules}
-use borrow.Author.Tests.{not-false}
 use lib.ListN.{length}
 use Rattle.job.specs.declared.Job.{Job}
 use Rattle.job.specs.Faults.{judge}
@@ -102,10 +101,10 @@ module _ (c : After-rail_allowed) where
   at = from begun
 
   room : room_for (length (stations (j at))) (path at) ≡ true
-  room = lent_room _ (path at) (sym (path_test lent.before.before.before) ∙ not-false _ lent.if-not-path_lent.left)
+  room = lent_room _ (path at) (sym (path_test lent.before.before.before) ∙ lent.if-not-path_lent.false)
 
   reached : reaches_lent (length (stations (j at))) (lengths_of (runs at)) ≡ true
-  reached = sym (reaches_test lent.before) ∙ not-false _ lent.if-not-reaches_lent.left
+  reached = sym (reaches_test lent.before) ∙ lent.if-not-reaches_lent.false
 
 pub returns-then-fault-ne0 : goal.returns-then-fault-ne0
 returns-then-fault-ne0 c = let s = c.before.before.before.before in c.judge-fault.ensures ∙ fault_first (j s) (rail s) (path s) (runs s) (λ e. c.if-fault-ne0.true (c.judge-fault.ensures ∙ e))

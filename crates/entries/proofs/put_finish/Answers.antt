@@ -60,7 +60,7 @@ y_alone c = search rules
 
 -- with a widest place
 abbrev place : In-Found → Place
-place c = c.widest.given.0.0
+place c = c.in-Found.p
 
 on_path : (c : In-Found) → (place c).station ≤ 2000
 on_path c = subst OnPath c.in-Found.is c.requires.ranges.widest

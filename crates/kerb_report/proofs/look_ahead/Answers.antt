@@ -5,7 +5,6 @@ use mathlib.Core.List.{List}
 use native.Mathlib.Omega.{arith}
 use lib.ListN.{length, take}
 use borrow.Author.Rules.{rules}
-use borrow.Author.Tests.{not-false}
 use Rattle.plane.specs.declared.Vec2.{Vec2}
 use Rattle.job.specs.declared.Vehicle.{Vehicle}
 use Rattle.job.proofs.Arrays.{unmapped}
@@ -109,13 +108,13 @@ module _ (t : Else-not-is_made) where
   after = t.before.before.before
 
   turned : outcome_of (next after).answer ≡ made
-  turned = made_by _ (sym t.is_made.ensures ∙ not-false _ t.if-not-is_made.left)
+  turned = made_by _ (sym t.is_made.ensures ∙ t.if-not-is_made.false)
 
   passed : Ahead (view (next after).walk) (asked (from after)) (path (from after)) (n (from after)) (kerb (from after))
-  passed = let s = from after in let l = head after in still_ahead (asked s) (path s) (n s) (kerb s) (here l) (next after) (ahead l) after.loop-here-test.taken (ensured after) turned
+  passed = let s = from after in let l = head after in still_ahead (asked s) (path s) (n s) (kerb s) (here l) (next after) (ahead l) after.loop-here-test.true (ensured after) turned
 
   same : (next after).walk.vehicle ≡ (here (head after)).vehicle
-  same = let s = from after in let l = head after in same_vehicle (asked s) (path s) (n s) (kerb s) (here l) (next after) (ahead l) after.loop-here-test.taken (ensured after) turned
+  same = let s = from after in let l = head after in same_vehicle (asked s) (path s) (n s) (kerb s) (here l) (next after) (ahead l) after.loop-here-test.true (ensured after) turned
 
   places_still : length (next after).walk.vehicle.units ≡ 4
   places_still = ap (λ (v : Vehicle). length v.units) same ∙ places (head after)

@@ -2,7 +2,6 @@
 use Prim.Native.Nat.{ℕ}
 use mathlib.Core.Path.{◌≡◌, sym, ◌∙◌}
 use mathlib.Core.Bool.{true}
-use borrow.Author.Tests.{not-false}
 use Rattle.path.specs.Laying.{PathRuns, path_runs}
 use Rattle.walk.specs.Drawn.{Drawn, view}
 use Rattle.walk.specs.Tests.{path_lent, path_sound, record_sound}
@@ -41,7 +40,7 @@ module _ (e : Else-not-path_lent) where
   s1 = e.before.before
 
   lent : path_lent (asked s1) (path s1) ≡ true
-  lent = sym e.path_lent.ensures ∙ not-false _ e.if-not-path_lent.left
+  lent = sym e.path_lent.ensures ∙ e.if-not-path_lent.false
 
 pub returns-then-not-kerb_lent : goal.returns-then-not-kerb_lent
 returns-then-not-kerb_lent c =
@@ -54,7 +53,7 @@ module _ (e : Else-not-kerb_lent) where
   e1 = e.before.before
 
   kerb_lent_lem : kerb_lent (n (s1 e1)) (kerb (s1 e1)) ≡ true
-  kerb_lent_lem = sym e.kerb_lent.ensures ∙ not-false _ e.if-not-kerb_lent.left
+  kerb_lent_lem = sym e.kerb_lent.ensures ∙ e.if-not-kerb_lent.false
 
 pub path_sound-requires : goal.path_sound-requires
 path_sound-requires c = let s = s1 (e1 c) in record { room = (lent_path (asked s) (path s) (lent (e1 c))).room }
@@ -73,7 +72,7 @@ module _ (e : Else-not-path_sound) where
   s3 = s1 (e1 e2)
 
   sound : path_sound (asked s3) (path s3) ≡ true
-  sound = sym e.path_sound.ensures ∙ not-false _ e.if-not-path_sound.left
+  sound = sym e.path_sound.ensures ∙ e.if-not-path_sound.false
 
 pub kerb_sound-requires : goal.kerb_sound-requires
 kerb_sound-requires c = record { lent = kerb_lent_lem (e2 c) }
@@ -89,7 +88,7 @@ module _ (e : Else-not-kerb_sound) where
   e3 = e.before.before
 
   kerb_sound_lem : kerb_sound (n (s3 e3)) (kerb (s3 e3)) ≡ true
-  kerb_sound_lem = sym e.kerb_sound.ensures ∙ not-false _ e.if-not-kerb_sound.left
+  kerb_sound_lem = sym e.kerb_sound.ensures ∙ e.if-not-kerb_sound.false
 
 pub returns-then-not-record_sound : goal.returns-then-not-record_sound
 returns-then-not-record_sound c =
@@ -102,7 +101,7 @@ module _ (e : Else-not-record_sound) where
   e4 = e.before.before
 
   rig_sound : record_sound (asked (s3 (e3 e4))) (drawn (s3 (e3 e4))) ≡ true
-  rig_sound = sym e.record_sound.ensures ∙ not-false _ e.if-not-record_sound.left
+  rig_sound = sym e.record_sound.ensures ∙ e.if-not-record_sound.false
 
 pub look_ahead-requires : goal.look_ahead-requires
 look_ahead-requires c = record { path = lent (e1 (e2 (e3 (e4 c)))); kerb = kerb_lent_lem (e2 (e3 (e4 c))); stations = sound (e3 (e4 c)); vertices = kerb_sound_lem (e4 c); rig = rig_sound c }

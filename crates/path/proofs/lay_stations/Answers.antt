@@ -53,7 +53,7 @@ module _ (g : After-gys-1) where
   at = g.before.before.before.before.before.before.before.before.before
 
   abbrev first : PathRuns
-  first = let f = g.store.last in path_runs f.0 f.1.0 f.1.1.0 f.1.1.1.0
+  first = let f = g.store.new in path_runs f.xs f.ys f.gxs f.gys
 
   first_stored : first ≡ stored 0 at.args.start (given at)
   first_stored = g.store.ensures

@@ -28,23 +28,23 @@ module _ (c : After-least-s) where
 pub next_station-station-requires : goal.next_station-station-requires
 next_station-station-requires c =
     let a = c.args in
-    subst (Reachable a.c.station a.e.curve) (sym (length_is c)) (reachable a.step a.e a.c c.requires)
+    subst (Reachable a.c.station a.e.curve) (sym (length_is c.before)) (reachable a.step a.e a.c c.requires)
 
 pub overflow_add-behind : goal.overflow_add-behind
 overflow_add-behind c =
     let s = c.before.before in
     let f : Fits w32 s.args.e.length = search rules in
-    record { fits = omega (arith, length_is c.before, (step_length_lem s.args.step s.args.e s.args.c s.requires).2, f.fits) }
+    record { fits = omega (arith, length_is c.before.before, (step_length_lem s.args.step s.args.e s.args.c s.requires).2, f.fits) }
 
 pub overflow_sub-ahead : goal.overflow_sub-ahead
 overflow_sub-ahead c =
     let s = c.before.before in
-    omega (arith, length_is c.before, (step_length_lem s.args.step s.args.e s.args.c s.requires).2)
+    omega (arith, length_is c.before.before, (step_length_lem s.args.step s.args.e s.args.c s.requires).2)
 
 pub returns-then-ahead-gt0 : goal.returns-then-ahead-gt0
 unfolding cursor_after
-returns-then-ahead-gt0 c = let b = c.before.before in rw (← length_is b, ticks_left_lem (behind b) (whole b) (omega arith), c.next_station-station.ensures)
+returns-then-ahead-gt0 c = let b = c.before.before in rw (← length_is b.before, ticks_left_lem (behind b.before) (whole b.before) (omega arith), c.next_station-station.ensures)
 
 pub returns : goal.returns
 unfolding cursor_after
-returns c = let b = c.before.before.before in rw (← length_is b, none_left (behind b) (whole b) c.if-ahead-gt0.false, c.next_station-station.ensures)
+returns c = let b = c.before.before.before in rw (← length_is b.before, none_left (behind b.before) (whole b.before) c.if-ahead-gt0.false, c.next_station-station.ensures)

@@ -15,7 +15,7 @@ use Rattle.path.proofs.next_station.Goals.{After-path_step-a, After-wide, Start}
 
 module _ (c : After-wide) where
   abbrev s : Start
-  s = c.before.before
+  s = c.before.before.before
 
   exact_s : reread c.wide.result ≡ pos s.args.s
   exact_s = to_z-of_z {w = w64} (record { sfits = c.wide.type_inv }) ∙ c.wide.ensures
@@ -34,14 +34,14 @@ stepped c = let s = c.before.before.before in c.path_step-a.ensures ∙ ap₂ (a
 pub plus-position-requires : goal.plus-position-requires
 plus-position-requires c =
     let s = c.before.before.before in
-    subst (λ (a : Advance). BothModerate s.args.p.position a.shift) (sym (stepped c))
+    subst (λ (a : Advance). BothModerate s.args.p.position a.shift) (sym (stepped c.before.before))
     (record { first = s.requires.place; second = shift_moderate s.args.p s.args.curve s.args.s s.requires })
 
 pub returns : goal.returns
 returns c =
     let b = c.before.before in
     let s = b.before.before.before in
-    let e = stepped b in
+    let e = stepped b.before.before in
     let x = c.plus-position.ensures ∙ ap (λ (a : Advance). plus s.args.p.position a.shift) e in
     let h = ap (λ (a : Advance). a.heading) e in
     λ i. record { position = x i; heading = h i }

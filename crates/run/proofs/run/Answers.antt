@@ -4,7 +4,6 @@ use mathlib.Core.Path.{◌≡◌, sym, ◌∙◌, ap, subst}
 use mathlib.Core.Bool.{true}
 use native.Mathlib.Omega.{arith}
 use borrow.Author.Rules.{rules}
-use borrow.Author.Tests.{not-false}
 use lib.ListN.{length}
 use Rattle.job.specs.declared.Job.{Job}
 use Rattle.job.specs.Faults.{judge}
@@ -90,7 +89,7 @@ module _ (c : After-lay-laid) where
 
   has_room : (m : ℕ) → LayEnsures (j given) (path given) (L.Stations m) laid → reaches_lent m (lengths_of (runs given)) ≡ true
   has_room m t =
-      subst (λ (n : ℕ). reaches_lent n (lengths_of (runs given)) ≡ true) (sym (stations_answered (j given) (path given) m laid t).2) (sym (tested test.before) ∙ not-false _ test.if-not-reaches_lent.left)
+      subst (λ (n : ℕ). reaches_lent n (lengths_of (runs given)) ≡ true) (sym (stations_answered (j given) (path given) m laid t).2) (sym (tested test.before) ∙ test.if-not-reaches_lent.false)
 
 pub returns-then-fault-ne0 : goal.returns-then-fault-ne0
 returns-then-fault-ne0 c =

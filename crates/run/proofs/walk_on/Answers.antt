@@ -74,7 +74,7 @@ module _ (a : After-advance_and_enter-next) where
   lengths : SameLengths after (reach_runs (start loop).args.left.now (start loop).args.right.now (start loop).args.marks.now)
   lengths =
       let l = loop.loop-here.invariant.1 in
-      let s = same_lengths (asked loop) (path loop) (here loop) (runs loop) next after from.loop-here-test.taken ensured in
+      let s = same_lengths (asked loop) (path loop) (here loop) (runs loop) next after from.loop-here-test.true ensured in
       record { left = s.left ∙ l.left; right = s.right ∙ l.right; marks = s.marks ∙ l.marks }
 
 pub shape_of-left-then-not-is_made : goal.shape_of-left-then-not-is_made

@@ -33,7 +33,7 @@ run s = s.args.answer.now
 
 -- each coordinate is read back from its bits as it was
 abbrev advance : In-Turned → Advance
-advance c = c.turn.given.0.0
+advance c = c.in-Turned.advance
 
 heading_x : (c : After-struct_told-1) → reread (advance c.before.before.before.before).heading.x ≡ (advance c.before.before.before.before).heading.x
 heading_x c = search rules
@@ -57,6 +57,6 @@ returns-in-Turned c =
     let mx = move_x c.before.before.before in
     let my = move_y c.before.before in
     let first = c.put_pair.ensures ∙ (λ i. sets (run s) 0 (hx i ∷ hy i ∷ [])) in
-    let second = c.put_pair-in-Turned.ensures ∙ (λ i. sets c.put_pair.new.0 2 (mx i ∷ my i ∷ [])) in
+    let second = c.put_pair-in-Turned.ensures ∙ (λ i. sets c.put_pair.new.run 2 (mx i ∷ my i ∷ [])) in
     told_as path_told (run s) 0 _ _ s.args.turn k.in-Turned.is
     (record { number = refl; run = written_on (run s) (a.heading.x ∷ a.heading.y ∷ []) (a.shift.x ∷ a.shift.y ∷ []) first second })

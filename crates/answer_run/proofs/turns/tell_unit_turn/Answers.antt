@@ -27,7 +27,7 @@ run s = s.args.answer.now
 
 -- each coordinate is read back from its bits as it was
 abbrev vector : In-Turned → Vec2
-vector c = c.turn.given.0.0
+vector c = c.in-Turned.vector
 
 x_alone : (c : After-struct_told-1) → reread (vector c.before.before).x ≡ (vector c.before.before).x
 x_alone c = search rules

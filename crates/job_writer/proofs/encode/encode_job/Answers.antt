@@ -27,21 +27,21 @@ room c = omega (arith, record_length_lem c.args.j c.requires.accepted)
 pub put_vehicle-a-requires : goal.put_vehicle-a-requires
 put_vehicle-a-requires c = let j = c.args.j in
     let v = sound_vehicle j.vehicle (sound j c.requires.accepted).vehicle in
-    record { most = within_most (record { least = 1; most = 4 }) j.vehicle.count v.count; ends = (first (write_vehicle j.vehicle) (write_start j.start ++ write_path j) 0 (room c)).ends }
+    record { most = within_most (record { least = 1; most = 4 }) j.vehicle.count v.count; ends = (first (write_vehicle j.vehicle) (write_start j.start ++ write_path j) 0 (room c.before)).ends }
 
 pub put_start-b-requires : goal.put_start-b-requires
 put_start-b-requires c = let j = c.args.j in
-    first (write_start j.start) (write_path j) _ (then _ (write_vehicle j.vehicle) _ c.put_vehicle-a.ensures (room c.before)).ends
+    first (write_start j.start) (write_path j) _ (then _ (write_vehicle j.vehicle) _ c.put_vehicle-a.ensures (room c.before.before.before)).ends
 
 pub put_path-requires : goal.put_path-requires
 put_path-requires c = let j = c.args.j in
     let s = sound j c.requires.accepted in
     let m : j.count ≤ 64 = within_most (record { least = 1; most = 64 }) j.count s.count in
-    let n = sixty_four c.before.before in
+    let n = sixty_four c.before.before.before.before in
     record {
       most = m;
       allowed = elements_allowed j.step j.count j.elements (omega arith) s.elements;
-      ends = (then _ (write_start j.start) _ c.put_start-b.ensures (then _ (write_vehicle j.vehicle) _ c.put_vehicle-a.ensures (room c.before.before)).ends).ends;
+      ends = (then _ (write_start j.start) _ c.put_start-b.ensures (then _ (write_vehicle j.vehicle) _ c.put_vehicle-a.ensures (room c.before.before.before.before)).ends).ends;
     }
 
 pub returns : goal.returns

@@ -33,12 +33,12 @@ returns-then-n-eq1 c =
     let s = c.before.before.before in
     let a = s.args in
     let low = subst (λ (v : Vec2). Lowest a.count (move_touches a.olds a.news v v) c.lowest_below.result) c.vertex_at-v.ensures c.lowest_below.ensures in
-    of_point a.olds a.news (given s) a.n (omega (arith, c.if-n-eq1.taken)) a.count c.lowest_below.result low
+    of_point a.olds a.news (given s) a.n (omega (arith, c.if-n-eq1.true)) a.count c.lowest_below.result low
 
 pub returns : goal.returns
 returns c =
     let s = c.before.before in
     let a = s.args in
     let some = (lent_some (given s) a.n s.requires.lent).0 in
-    let line : 1 < a.n = omega (arith, some, c.if-n-eq1.left) in
+    let line : 1 < a.n = omega (arith, some, c.if-n-eq1.false) in
     subst (λ (ss : List Segment). Lowest a.count (move_touches_one a.olds a.news ss) c.lowest_along.result) (of_line (given s) a.n line) c.lowest_along.ensures

@@ -12,6 +12,7 @@ use Rattle.kerb_line.proofs.KerbLaws.{lent_some, vertex_lent, on_map}
 use Rattle.kerb_line.proofs.AlongLaws.{beyond_lowest, one_more, all_done}
 
 use Rattle.kerb_line.proofs.moves.lowest_along.Goals as goal
+use Rattle.kerb_line.proofs.moves.lowest_along.Goals.{then-not-beyond, else-not-beyond}
 use Rattle.kerb_line.proofs.moves.lowest_along.Goals.{At-loop-i, Joined-not-beyond, Start}
 
 abbrev start : At-loop-i → Start
@@ -86,10 +87,10 @@ module _ (c : Joined-not-beyond) where
 
   after : At (vertex_at (given s) l.loop-i.i) (vertex_at (given s) (l.loop-i.i + 1)) c.if-not-beyond.best
   after =
-      ⊎_elim
-      (λ t. placed _ t.2 t.1.ensures)
-      (λ t. placed _ t.1 (beyond_lowest s.args.olds s.args.news _ _ _ s.args.count l.loop-i.best l.loop-i.invariant.1 l.of_moves-b.ensures (sym c.beyond.ensures ∙ not-false _ t.0.left)))
-      c.if-not-beyond.branch
+      elim c.if-not-beyond.branch [
+        then-not-beyond w ↦ placed _ w.best-is w.lowest_below-best.ensures
+        | else-not-beyond w ↦ placed _ w.best-is (beyond_lowest s.args.olds s.args.news _ _ _ s.args.count l.loop-i.best l.loop-i.invariant.1 l.of_moves-b.ensures (sym c.beyond.ensures ∙ w.if-not-beyond.false))
+      ]
 
 pub loop-i-preserved : goal.loop-i-preserved
 loop-i-preserved c =

@@ -55,7 +55,7 @@ returns-then-crosses_station c =
     let m = c.with_bit.ensures in
     let a = (s c).args in
     let t = (b c).before.before in
-    (λ i. record { left = x i; right = y i; mark = m i }) ∙ crossed a.p a.s a.old a.new a.c (sym t.crosses_station.ensures ∙ t.if-crosses_station.taken)
+    (λ i. record { left = x i; right = y i; mark = m i }) ∙ crossed a.p a.s a.old a.new a.c (sym t.crosses_station.ensures ∙ t.if-crosses_station.true)
 
 pub returns : goal.returns
 returns c = let a = c.args in sym (not_crossed a.p a.s a.old a.new a.c (sym c.crosses_station.ensures ∙ c.if-crosses_station.false))
