@@ -50,15 +50,15 @@ pub point_count-count-requires : goal.point_count-count-requires
 point_count-count-requires c = record { most = (units_counted c.args.w.vehicle (sound_record (asked c) (view c.args.w) c.requires.rig).vehicle).1 }
 
 pub points_here-olds-requires : goal.points_here-olds-requires
-points_here-olds-requires c = let s = c.before in on_path (asked s) (path s) (n s) (kerb s) s.args.w s.requires (first_places s)
+points_here-olds-requires c = let s = c.before.before in on_path (asked s) (path s) (n s) (kerb s) s.args.w s.requires (first_places s)
 
 pub loop-here-init : goal.loop-here-init
-loop-here-init c = (c.requires, c.point_count-count.ensures, first_places c.before.before, c.points_here-olds.ensures, refl)
+loop-here-init c = (c.requires, c.point_count-count.ensures, first_places c.before.before.before, c.points_here-olds.ensures, refl)
 
 -- at the loop's head
 module _ (l : After-struct_known-1) where
   abbrev start : Start
-  start = l.before.before.before.before
+  start = l.before.before.before.before.before
 
   abbrev here : Walk
   here = l.loop-here.here

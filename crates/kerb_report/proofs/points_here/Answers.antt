@@ -15,6 +15,6 @@ points-requires c =
 
 pub returns : goal.returns
 returns c =
-    let t = c.before.before.before in
+    let t = c.before.before.before.before in
     let s = t.before in
     c.points.ensures ∙ ap (λ (a : Station). sets no_points 0 (rig_points s.args.w.vehicle s.args.w.d a.position)) t.station_at-here.ensures

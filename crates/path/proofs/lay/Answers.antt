@@ -57,12 +57,12 @@ room c = c.if-n-xs.true
 pub lay_stations-requires : goal.lay_stations-requires
 lay_stations-requires c =
     let p = c.before.before.before.before in
-    let t = p.before in
+    let t = p.before.before in
     let b = t.before in
     let s = b.before.before.before.before in
-    let h = no_fault_lem b.before.before.before in
-    subst (λ (q : Station). Layable (j s.before).step (j s.before).count b.step_count-steps.result (j s.before).elements q (given s.before)) (sym p.start_station-start.ensures)
-    (record { accepted = accepted (j s.before) (places s) h; counted = b.step_count-steps.ensures; room = room t.before; start = (sound (j s.before) h).start })
+    let h = no_fault_lem b.before.before in
+    subst (λ (q : Station). Layable (j s).step (j s).count b.step_count-steps.result (j s).elements q (given s)) (sym p.start_station-start.ensures)
+    (record { accepted = accepted (j s) (places s) h; counted = b.step_count-steps.ensures; room = room t; start = (sound (j s) h).start })
 
 laid : (job : Job) (r q : PathRuns) (n : ℕ) → judge job ≡ 0 → n ≡ length (stations job) → room_for n r ≡ true → q ≡ written (stations_over job.step job.count job.elements (start_station job.start)) r
     → LayEnsures job r (L.Stations n) q
@@ -74,11 +74,11 @@ pub returns-then-n-xs : goal.returns-then-n-xs
 returns-then-n-xs c =
     let l = c.before.before.before.before in
     let p = l.before.before.before.before.before in
-    let t = p.before in
+    let t = p.before.before in
     let b = t.before in
     let s = b.before.before.before.before in
-    let whole = l.lay_stations.ensures ∙ ap (λ (q : Station). written (stations_over (j s.before).step (j s.before).count (j s.before).elements q) (given s.before)) p.start_station-start.ensures in
-    laid (j s.before) (given s.before) _ _ (no_fault_lem b.before.before) (count b) (room t) whole
+    let whole = l.lay_stations.ensures ∙ ap (λ (q : Station). written (stations_over (j s).step (j s).count (j s).elements q) (given s)) p.start_station-start.ensures in
+    laid (j s) (given s) _ _ (no_fault_lem b.before.before) (count b) (room t) whole
 
 pub returns : goal.returns
 returns c =

@@ -83,4 +83,4 @@ pub returns : goal.returns
 unfolding point_at
 returns c =
     c.plus.ensures
-    ∙ ap₂ (λ (e : End) (o : Vec2). plus e.place o) c.end_of-e.ensures (offset c.before)
+    ∙ ap₂ (λ (e : End) (o : Vec2). plus e.place o) c.end_of-e.ensures (offset c.before.before)

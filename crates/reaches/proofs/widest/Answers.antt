@@ -59,21 +59,21 @@ point_count-count-requires c = record { most = units c.before }
 
 pub widest_among-best-requires : goal.widest_among-best-requires
 widest_among-best-requires c =
-    let s = c.before.before.before.before.before.before.before in
-    record { bits = bits_fit (record { most = rw c.point_count-count.ensures (count_fits s.args.w.vehicle (units c.before.before)) }); room = lent_room s.args.asked (runs s) (lent c.before.before.before.before) }
+    let s = c.before.before.before.before.before.before.before.before in
+    record { bits = bits_fit (record { most = rw c.point_count-count.ensures (count_fits s.args.w.vehicle (units c.before.before.before)) }); room = lent_room s.args.asked (runs s) (lent c.before.before.before.before.before) }
 
 -- the best of the stations, for the points of the record's vehicle
-best : (c : After-widest_among-best) → let s = c.before.before.before.before.before.before.before in c.widest_among-best.result ≡ widest_among (point_count s.args.w.vehicle) s.args.asked (runs s)
+best : (c : After-widest_among-best) → let s = c.before.before.before.before.before.before.before.before in c.widest_among-best.result ≡ widest_among (point_count s.args.w.vehicle) s.args.asked (runs s)
 best c =
-    let s = c.before.before.before.before.before.before.before in
+    let s = c.before.before.before.before.before.before.before.before in
     c.widest_among-best.ensures ∙ ap (λ (n : ℕ). widest_among n s.args.asked (runs s)) c.point_count-count.ensures
 
 pub returns-in-Found : goal.returns-in-Found
 returns-in-Found c =
     let m = c.before.before in
-    sym (answered _ _ _ _ (lent m.before.before.before.before) (sound m.before.before) (sym c.in-Found.is ∙ best m))
+    sym (answered _ _ _ _ (lent m.before.before.before.before.before) (sound m.before.before.before) (sym c.in-Found.is ∙ best m))
 
 pub returns-in-Nothing : goal.returns-in-Nothing
 returns-in-Nothing c =
     let m = c.before.before in
-    sym (answered _ _ _ _ (lent m.before.before.before.before) (sound m.before.before) (sym c.in-Nothing.is ∙ best m))
+    sym (answered _ _ _ _ (lent m.before.before.before.before.before) (sound m.before.before.before) (sym c.in-Nothing.is ∙ best m))

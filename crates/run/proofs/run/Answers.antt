@@ -112,7 +112,7 @@ returns-then-not-reaches_lent c =
 
 pub run_over-requires : goal.run_over-requires
 run_over-requires c =
-    let k = c.before.before.before.before.before.before in
+    let k = c.before.before.before.before.before.before.before in
     let l = k.before.before.before.before.before.before in
     let t = answered l _ k.laid.given.1 in
     runnable (j (given l)) (path (given l)) _ (laid l) t (runs (given l)) (has_room l _ t)
@@ -120,7 +120,7 @@ run_over-requires c =
 pub returns-in-Stations : goal.returns-in-Stations
 returns-in-Stations c =
     let o = c.before.before.before.before.before in
-    let k = o.before.before.before.before.before.before.before in
+    let k = o.before.before.before.before.before.before.before.before in
     let l = k.before.before.before.before.before.before in
     let t = answered l _ k.laid.given.1 in
     run_done (j (given l)) (path (given l)) _ (laid l) t (runs (given l)) _ _ (has_room l _ t) o.run_over.ensures

@@ -19,7 +19,7 @@ by s o =
 
 pub returns-in-Made : goal.returns-in-Made
 returns-in-Made c =
-    let s = c.before.before.before.before.before in
+    let s = c.before.before.before.before.before.before in
     ap (λ (f : Finish). R.Finished f) c.finished.ensures ∙ ap (by s) (sym (ap outcome_of c.in-Made.is))
 
 pub returns-in-Refused : goal.returns-in-Refused

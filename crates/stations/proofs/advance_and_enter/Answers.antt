@@ -76,7 +76,7 @@ advance-advanced-requires c =
 
 pub enter-requires : goal.enter-requires
 enter-requires c =
-    let a = c.before.before.before.before in
+    let a = c.before.before.before.before.before in
     let t = a.before.before.before in
     let s = t.before.before.before in
     let w' = a.advance-advanced.result.walk in
@@ -87,7 +87,7 @@ enter-requires c =
 pub returns-in-Made : goal.returns-in-Made
 returns-in-Made c =
     let n = c.before.before.before.before.before in
-    let k = n.before.before.before.before in
+    let k = n.before.before.before.before.before in
     let a = k.before in
     let t = a.before.before.before in
     let s = t.before.before.before in

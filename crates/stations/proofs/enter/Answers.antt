@@ -34,7 +34,7 @@ point_count-count-requires c = record { most = c.requires.before.rig.most }
 -- the points of both states are of a size that can be measured
 module _ (p : After-points-news) where
   abbrev s : Start
-  s = p.before.before.before.before.before.before
+  s = p.before.before.before.before.before.before.before.before.before
 
   abbrev count : ℕ
   count = p.point_count-count.result

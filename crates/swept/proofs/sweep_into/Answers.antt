@@ -29,7 +29,7 @@ module _ (c : After-read_job-read) where
 pub returns-in-Accepted : goal.returns-in-Accepted
 returns-in-Accepted c =
     let o = c.before.before.before.before.before.before.before.before.before.before in
-    let told = o.before.before.before.before.before.before.before.before in
+    let told = o.before.before.before.before.before.before.before.before.before in
     let r = told.before in
     let q = o.run-ran.new.1 in
     let y = q.1.1.1.1 in

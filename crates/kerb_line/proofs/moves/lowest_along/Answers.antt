@@ -61,9 +61,6 @@ lowest_below-best-requires c =
 pub loop-i-smaller : goal.loop-i-smaller
 loop-i-smaller c = omega (arith, c.loop-i-test.true)
 
-not-false : (t : Bool) → not t ≡ false → t ≡ true
-not-false true e = refl
-not-false false e = sym e
 
 -- the lowest so far, after the segment from vertex i
 module _ (c : Joined-not-beyond) where

@@ -1,7 +1,6 @@
 -- `walk::units::turn_next` meets its contract: 22, then 23, then the new vector.
 use mathlib.Core.Path.{◌≡◌, sym, ◌∙◌, ap, ap₂, subst, subst₂}
 use mathlib.Core.Bool.{false}
-use borrow.Author.Tests.{not-true, not-false}
 use mir.Syntax.{w64}
 use mir.Facts.{to_z-of_z}
 use Rattle.exact.proofs.Machine.{reread}
@@ -53,7 +52,7 @@ turn c = let b = c.before.before.before in c.turned-t.ensures ∙ ap₂ (turned_
 
 pub returns-then-not-follows : goal.returns-then-not-follows
 unfolding next_turn
-returns-then-not-follows c = rw (near c.before.before, not-true (s c.before.before.before.before).args.follows c.if-not-follows.true, turn c.before)
+returns-then-not-follows c = rw (near c.before.before, c.if-not-follows.true, turn c.before)
 
 pub fold_kept-requires : goal.fold_kept-requires
 fold_kept-requires c =
@@ -71,11 +70,11 @@ unfolding next_turn
 returns-then-fold_kept c =
     let k = c.before in
     let t = k.before.before in
-    rw (near t.before, not-false (s t.before.before.before).args.follows k.if-not-follows.false, sym (kept k) ∙ c.if-fold_kept.true, turn t)
+    rw (near t.before, k.if-not-follows.false, sym (kept k) ∙ c.if-fold_kept.true, turn t)
 
 pub returns : goal.returns
 unfolding next_turn
 returns c =
     let k = c.before in
     let t = k.before.before in
-    rw (near t.before, not-false (s t.before.before.before).args.follows k.if-not-follows.false, sym (kept k) ∙ c.if-fold_kept.false)
+    rw (near t.before, k.if-not-follows.false, sym (kept k) ∙ c.if-fold_kept.false)
