@@ -9,7 +9,7 @@ use Rattle.kerb_report.proofs.points_here.Goals as goal
 
 pub points-requires : goal.points-requires
 points-requires c =
-    let t = c.before.before in
+    let t = c.before.before.before in
     let s = t.before in
     subst (λ (a : Station). RigAt s.args.w.vehicle s.args.w.d a.position) (sym t.station_at-here.ensures) s.requires.rig
 

@@ -27,7 +27,7 @@ pub station_at-start-requires : goal.station_at-start-requires
 station_at-start-requires c = let s = c in let l = lent_path s.args.asked (path s) s.requires.lent in station_lent (path s) s.args.asked 0 l.room l.least
 
 pub start-w-requires : goal.start-w-requires
-start-w-requires c = let a = c.before in
+start-w-requires c = let a = c.before.before in
     let s = a.before in
     let l = lent_path s.args.asked (path s) s.requires.lent in
     subst (λ (z : Station). StartReady s.args.j.vehicle z.heading) (sym a.station_at-start.ensures)

@@ -75,8 +75,8 @@ offset_from-offset-requires c =
 
 pub plus-requires : goal.plus-requires
 plus-requires c =
-    let o = asked c.before.before.before.before.before.before in
-    rw (c.end_of-e.ensures, offset c)
+    let o = asked c.before.before.before.before.before.before.before in
+    rw (c.end_of-e.ensures, offset c.before)
     (record { first = place_moderate (lit≤ tt) o.end.place; second = place_moderate (lit≤ tt) (offset_sized o) })
 
 pub returns : goal.returns

@@ -75,8 +75,8 @@ enter_station-requires c =
 
 -- one crosses: the runs are as the points leave them
 entered : (e : After-enter_station) → let s = start e.before.before.before.before.before.before.before in
-    let x = e.enter_station.new.1.1.1.1.1 in
-    reach_runs x.0 x.1.0 x.1.1.0 ≡ crossed_station s.args.i s.args.s (take s.args.count (points_of s.args.olds.now)) (take s.args.count (points_of s.args.news.now)) (runs s)
+    let x = e.enter_station.new in
+    reach_runs x.left x.right x.marks ≡ crossed_station s.args.i s.args.s (take s.args.count (points_of s.args.olds.now)) (take s.args.count (points_of s.args.news.now)) (runs s)
 entered e =
     let l = e.before.before.before.before.before.before.before in
     let a = (start l).args in
@@ -88,7 +88,7 @@ entered e =
 stored : (i : ℕ) (c : Cell) (r : Reaches) → SameLengths (store_cell i c r) r
 stored i c r = record { left = length-set r.left i c.left; right = length-set r.right i c.right; marks = length-set r.marks i c.mark }
 
-lengths : (e : After-enter_station) → let x = e.enter_station.new.1.1.1.1.1 in SameLengths (reach_runs x.0 x.1.0 x.1.1.0) (runs (start e.before.before.before.before.before.before.before))
+lengths : (e : After-enter_station) → let x = e.enter_station.new in SameLengths (reach_runs x.left x.right x.marks) (runs (start e.before.before.before.before.before.before.before))
 lengths e =
     let s = start e.before.before.before.before.before.before.before in
     subst (λ (x : Reaches). SameLengths x (runs s)) (sym (entered e)) (stored s.args.i _ (runs s))

@@ -55,7 +55,7 @@ units c =
     (units_counted s.args.w.vehicle (sound_record s.args.asked (view s.args.w) (sound c)).vehicle).1
 
 pub point_count-count-requires : goal.point_count-count-requires
-point_count-count-requires c = record { most = units c.before }
+point_count-count-requires c = record { most = units c.before.before }
 
 pub widest_among-best-requires : goal.widest_among-best-requires
 widest_among-best-requires c =

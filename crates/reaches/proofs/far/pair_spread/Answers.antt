@@ -81,8 +81,8 @@ module _ (c : After-greater-most) where
   both : reread right.greater-right.result ≡ greater first.apart.result second.apart-in-loop-k.result
   both = exact_right ∙ right.greater-right.ensures ∙ ap₂ greater exact_other exact_moved
 
-  most : reread c.greater-most.result ≡ greater (to_z w64 l.loop-k.most) (greater third.apart-in-loop-k-2.result (greater first.apart.result second.apart-in-loop-k.result))
-  most = exact_most ∙ c.greater-most.ensures ∙ ap (greater (to_z w64 l.loop-k.most)) (exact_inner ∙ inner.greater.ensures ∙ ap₂ greater exact_new both)
+  most : reread c.greater-most.result ≡ greater (to_z w64 l.loop-k.most-bits) (greater third.apart-in-loop-k-2.result (greater first.apart.result second.apart-in-loop-k.result))
+  most = exact_most ∙ c.greater-most.ensures ∙ ap (greater (to_z w64 l.loop-k.most-bits)) (exact_inner ∙ inner.greater.ensures ∙ ap₂ greater exact_new both)
 
   next : PairSpread (l.loop-k.k + 1) s.args.olds s.args.news (reread c.greater-most.result)
   next =
@@ -104,4 +104,4 @@ returns c =
     let l = c.before in
     let a = l.args in
     let e : l.loop-k.k ≡ a.pairs = omega (arith, l.loop-k.invariant.0, c.loop-k-test.false) in
-    subst (λ (n : ℕ). PairSpread n a.olds a.news (to_z w64 l.loop-k.most)) e l.loop-k.invariant.1
+    subst (λ (n : ℕ). PairSpread n a.olds a.news (to_z w64 l.loop-k.most-bits)) e l.loop-k.invariant.1

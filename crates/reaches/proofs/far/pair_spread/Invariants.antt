@@ -6,7 +6,7 @@ use Rattle.reaches.specs.Far.{PairSpread}
 use Rattle.reaches.proofs.far.pair_spread.Given as goal
 
 abbrev pub invariant-loop-k : goal.invariant-loop-k
-invariant-loop-k l = (l.k ≤ l.pairs) × PairSpread l.k l.olds l.news (to_z w64 l.most)
+invariant-loop-k l = (l.k ≤ l.pairs) × PairSpread l.k l.olds l.news l.most
 
 abbrev pub decreases-loop-k : goal.decreases-loop-k
 decreases-loop-k l = l.pairs - l.k

@@ -46,14 +46,14 @@ module _ (c : After-greater-most) where
   exact_most : reread c.greater-most.result ≡ c.greater-most.result
   exact_most = search rules
 
-  most : reread c.greater-most.result ≡ greater (to_z w64 l.loop-p.most) (greater g.apart.result g.apart-in-loop-p.result)
-  most = exact_most ∙ c.greater-most.ensures ∙ ap (greater (to_z w64 l.loop-p.most)) (exact_inner ∙ g.greater.ensures ∙ ap₂ greater exact_old exact_new)
+  most : reread c.greater-most.result ≡ greater (to_z w64 l.loop-p.most-bits) (greater g.apart.result g.apart-in-loop-p.result)
+  most = exact_most ∙ c.greater-most.ensures ∙ ap (greater (to_z w64 l.loop-p.most-bits)) (exact_inner ∙ g.greater.ensures ∙ ap₂ greater exact_old exact_new)
 
   next : Spread s.args.from (l.loop-p.p + 1) s.args.olds s.args.news (reread c.greater-most.result)
   next =
       let old = g.apart.ensures in
       let new = g.apart-in-loop-p.ensures in
-      let p = g.loop-p-test.taken in
+      let p = g.loop-p-test.true in
       subst (Spread s.args.from (l.loop-p.p + 1) s.args.olds s.args.news) (sym most)
       (upto_next s.args.from s.args.olds s.args.news l.loop-p.p _ _ _ l.loop-p.invariant.1 old new
       (subst (Within 640000000) (sym old) (apart_sized _ _ s.requires.place (s.requires.old l.loop-p.p p)))
@@ -67,4 +67,4 @@ returns c =
     let l = c.before in
     let a = l.args in
     let e : l.loop-p.p ≡ a.count = omega (arith, l.loop-p.invariant.0, c.loop-p-test.false) in
-    subst (λ (n : ℕ). Spread a.from n a.olds a.news (to_z w64 l.loop-p.most)) e l.loop-p.invariant.1
+    subst (λ (n : ℕ). Spread a.from n a.olds a.news (to_z w64 l.loop-p.most-bits)) e l.loop-p.invariant.1

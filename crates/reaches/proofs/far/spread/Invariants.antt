@@ -6,7 +6,7 @@ use Rattle.reaches.specs.Far.{Spread}
 use Rattle.reaches.proofs.far.spread.Given as goal
 
 abbrev pub invariant-loop-p : goal.invariant-loop-p
-invariant-loop-p l = (l.p ≤ l.count) × Spread l.from l.p l.olds l.news (to_z w64 l.most)
+invariant-loop-p l = (l.p ≤ l.count) × Spread l.from l.p l.olds l.news l.most
 
 abbrev pub decreases-loop-p : goal.decreases-loop-p
 decreases-loop-p l = l.count - l.p
