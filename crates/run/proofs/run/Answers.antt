@@ -82,7 +82,7 @@ module _ (c : After-lay-laid) where
   given = from test.before
 
   abbrev laid : PathRuns
-  laid = path_runs c.lay-laid.new.1.0 c.lay-laid.new.1.1.0 c.lay-laid.new.1.1.1.0 c.lay-laid.new.1.1.1.1.0
+  laid = path_runs c.lay-laid.new.xs c.lay-laid.new.ys c.lay-laid.new.gxs c.lay-laid.new.gys
 
   answered : (a : Laid) → c.lay-laid.result ≡ a → LayEnsures (j given) (path given) a laid
   answered a e = subst (λ (x : Laid). LayEnsures (j given) (path given) x laid) e c.lay-laid.ensures
@@ -112,17 +112,15 @@ returns-then-not-reaches_lent c =
 
 pub run_over-requires : goal.run_over-requires
 run_over-requires c =
-    let k = c.before.before.before.before.before.before.before in
-    let l = k.before.before.before.before.before.before in
-    let t = answered l _ k.laid.given.1 in
+    let l = c.before.before.before.before.before.before.before.before.before.before in
+    let t = answered l _ c.in-Stations.is in
     runnable (j (given l)) (path (given l)) _ (laid l) t (runs (given l)) (has_room l _ t)
 
 pub returns-in-Stations : goal.returns-in-Stations
 returns-in-Stations c =
     let o = c.before.before.before.before.before in
-    let k = o.before.before.before.before.before.before.before.before in
-    let l = k.before.before.before.before.before.before in
-    let t = answered l _ k.laid.given.1 in
+    let l = o.before.before.before.before.before.before.before.before.before.before in
+    let t = answered l _ c.in-Stations.is in
     run_done (j (given l)) (path (given l)) _ (laid l) t (runs (given l)) _ _ (has_room l _ t) o.run_over.ensures
 
 pub returns-in-Refused : goal.returns-in-Refused
