@@ -112,7 +112,7 @@ returns-then-not-reaches_lent c =
 
 pub run_over-requires : goal.run_over-requires
 run_over-requires c =
-    let l = c.before.before.before.before.before.before.before.before.before.before in
+    let l = c.before.before.before.before.before.before.before.before.before in
     let t = answered l _ c.in-Stations.is in
     runnable (j (given l)) (path (given l)) _ (laid l) t (runs (given l)) (has_room l _ t)
 

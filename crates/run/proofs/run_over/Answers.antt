@@ -82,14 +82,14 @@ walk_on-end-requires c =
 
 pub told-requires : goal.told-requires
 told-requires c =
-    let k = c.before.before.before.before.before in
+    let k = c.before.before.before.before in
     let p = k.before.before.before.before in
     let s = from p in
     end_tellable s.args.asked (path s) s.args.v (runs s) s.requires p.start-w.result (empty p) (is_placed p) (is_clear p) k.walk_on-end.result _ k.walk_on-end.ensures
 
 pub returns : goal.returns
 returns c =
-    let k = c.before.before.before.before.before.before in
+    let k = c.before.before.before.before.before in
     let p = k.before.before.before.before in
     let s = from p in
     told_so s.args.asked (path s) s.args.v (runs s) s.requires p.start-w.result (empty p) (is_placed p) (is_clear p) k.walk_on-end.result _ k.walk_on-end.ensures _ c.told.ensures

@@ -49,7 +49,7 @@ station_at-here-requires c = station_lent (path (s c)) (s c).args.asked (s c).ar
 
 pub points-requires : goal.points-requires
 points-requires c =
-    let t = c.before.before in
+    let t = c.before.before.before.before in
     let w = (s t).args.w in
     subst (λ (z : Station). RigAt w.vehicle w.d z.position) (sym c.station_at-here.ensures)
     (rig_at w (path (s t)) (s t).args.asked w.station (places (s t)) (sound_keeping (s t).args.asked (view w) (record_passed t)) (path_passed t) (reached t))
