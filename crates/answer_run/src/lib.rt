@@ -1,5 +1,6 @@
 // A lent answer run and the number beside it: what programs in C and Rust get of a refusal, and of a turn by itself.
 #![tactic(auto)]
+
 pub mod turns;
 
 ghost use Rattle.std.specs.Prelude.{◌≡◌, [], ◌∷◌, length};

@@ -1,5 +1,6 @@
 // Whole-number division as the papers round it.
 #![tactic(auto)]
+
 ghost use Rattle.std.specs.Prelude.{◌≡◌, pos};
 ghost use Rattle.exact.specs.Nearest.{nearest_z, Divisor, NearestRule};
 

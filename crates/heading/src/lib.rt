@@ -1,5 +1,6 @@
 // The heading of the path, turned step by step.
 #![tactic(auto)]
+
 ghost use Rattle.std.specs.Prelude.{◌≡◌};
 ghost use Rattle.job.specs.Curves.{radius_of, radius_allowed};
 ghost use Rattle.heading.specs.Turn.{turned_by, Tangent, heading_after, move_of, ArcRule, TangentRule};

@@ -1,5 +1,6 @@
 // The job: its types, what its fields may hold, and the test of a job handed over by value.
 #![tactic(auto)]
+
 mod measures;
 mod rows;
 

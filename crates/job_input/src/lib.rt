@@ -1,5 +1,6 @@
 // A job's bytes from standard input, as every program that answers one job reads them. It rests on the C library alone.
 #![tactic(auto)]
+
 ghost use Rattle.job_input.specs.Input.{InputEnsures};
 
 // So many bytes, to the input's end or the buffer's; or a read that failed.

@@ -1,5 +1,6 @@
 // Reading a job: fields in order; within one, that it ends and is in shortest form, then its range.
 #![tactic(auto)]
+
 mod body;
 mod elements;
 mod first;

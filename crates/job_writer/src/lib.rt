@@ -1,5 +1,6 @@
 // Writing a job: its faults first, then the room, then its one encoding.
 #![tactic(auto)]
+
 mod encode;
 
 ghost use Rattle.std.specs.Prelude.{◌≡◌, ◌≤◌, length, take};

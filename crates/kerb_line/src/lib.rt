@@ -1,5 +1,6 @@
 // A kerb in two lent runs of ticks, and the lowest point of a rig whose move touches it.
 #![tactic(auto)]
+
 mod bounds;
 mod moves;
 

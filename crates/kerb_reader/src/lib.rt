@@ -1,5 +1,6 @@
 // A kerb's geometry, from its bytes to ticks: fields in order; within one, that its bytes are there, then what it may hold.
 #![tactic(auto)]
+
 mod fields;
 mod shapes;
 mod writing;

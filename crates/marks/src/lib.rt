@@ -1,5 +1,6 @@
 // The points of a rig by number, and the mark of a station: which of them have crossed it.
 #![tactic(auto)]
+
 ghost use Rattle.std.specs.Prelude.{◌≡◌};
 ghost use Rattle.job.specs.Inner.{UnitsInUse};
 ghost use Rattle.marks.specs.Count.{point_count};

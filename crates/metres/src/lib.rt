@@ -1,5 +1,6 @@
 // A kerb's coordinate: eight bytes to a float, and a float's metres to ticks.
 #![tactic(auto)]
+
 ghost use Rattle.std.specs.Prelude.{◌≡◌, length};
 ghost use Rattle.metres.specs.Bytes.{Bytes, little_endian, metres_at};
 ghost use Rattle.metres.specs.Answers.{as_metres};

@@ -1,5 +1,6 @@
 // Whole numbers in seven-bit groups, lowest group first: read at a cursor, written into a lent run.
 #![tactic(auto)]
+
 ghost use Rattle.std.specs.Prelude.{◌≡◌, ◌+◌, length, nat_abs};
 ghost use Rattle.std.proofs.lemmas.List.Edits.{sets};
 ghost use Rattle.number.specs.Number.{groups, read_number, write_number};

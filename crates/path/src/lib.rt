@@ -1,5 +1,6 @@
 // The path of the tractor's front axle, laid station by station.
 #![tactic(auto)]
+
 ghost use Rattle.std.specs.Prelude.{◌≡◌, take};
 ghost use Rattle.path.specs.Stations.{start_station, station_after, step_total};
 ghost use Rattle.path.specs.Laying.{path_runs, written, stored, stations_over, Storable, Accepted, Layable, LayEnsures};

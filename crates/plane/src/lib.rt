@@ -1,5 +1,6 @@
 // Vectors in the plane, and the one way in which a turned vector is drawn.
 #![tactic(auto)]
+
 ghost use Rattle.std.specs.Prelude.{◌≡◌, pos, length, get_or, set};
 ghost use Rattle.exact.specs.Nearest.{Divisor};
 ghost use Rattle.plane.specs.Vector.{dot as dotZ, plus as plusZ, minus as minusZ, nearest_v, BothModerate};

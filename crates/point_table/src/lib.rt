@@ -1,5 +1,6 @@
 // The table of the points of a rig: what each is measured from, how far ahead of it and how far beside it.
 #![tactic(auto)]
+
 ghost use Rattle.std.specs.Prelude.{◌≡◌};
 ghost use Rattle.marks.specs.Requires.{HasRoom};
 ghost use Rattle.point_table.specs.Table.{row_at};

@@ -1,5 +1,6 @@
 // The points of a rig that are measured at the stations.
 #![tactic(auto)]
+
 mod corners;
 
 ghost use Rattle.std.specs.Prelude.{◌≡◌};

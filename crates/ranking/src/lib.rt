@@ -1,5 +1,6 @@
 // Settings in their order, and the best three of them.
 #![tactic(auto)]
+
 ghost use Rattle.std.specs.Prelude.{◌≡◌};
 ghost use Rattle.ranking.specs.Ranking.{is_before, entered};
 ghost use Rattle.ranking.specs.Best.{BestThree};

@@ -1,5 +1,6 @@
 // What the stations keep of the points that cross them, and where the rig is widest.
 #![tactic(auto)]
+
 ghost use Rattle.std.specs.Prelude.{◌≡◌, take};
 ghost use Rattle.path.specs.Laying.{path_runs};
 ghost use Rattle.reaches.specs.Cells.{reach_runs, cleared};

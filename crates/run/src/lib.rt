@@ -1,5 +1,6 @@
 // A whole job: its path laid, its vehicle placed and stepped to the last station.
 #![tactic(auto)]
+
 ghost use Rattle.std.specs.Prelude.{◌≡◌};
 ghost use Rattle.path.specs.Laying.{path_runs};
 ghost use Rattle.walk.specs.Drawn.{view, outcome_of};

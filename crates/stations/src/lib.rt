@@ -1,5 +1,6 @@
 // Placing a walk and stepping it, with what the stations keep of it.
 #![tactic(auto)]
+
 ghost use Rattle.std.specs.Prelude.{◌≡◌};
 ghost use Rattle.path.specs.Laying.{path_runs};
 ghost use Rattle.walk.specs.Drawn.{view};

@@ -1,5 +1,6 @@
 // Numbers as ASCII text, written into a lent run of bytes, and read from bytes.
 #![tactic(auto)]
+
 ghost use Rattle.std.specs.Prelude.{◌≡◌, ◌+◌, length, nat_abs};
 ghost use Rattle.std.proofs.lemmas.List.Edits.{sets};
 ghost use Rattle.text.specs.Decimal.{digits, decimal, signed_decimal};

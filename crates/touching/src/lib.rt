@@ -1,5 +1,6 @@
 // Whether two closed segments touch or cross, exactly.
 #![tactic(auto)]
+
 ghost use Rattle.std.specs.Prelude.{◌≡◌};
 ghost use Rattle.plane.specs.Vector.{right_normal, Moderate};
 ghost use Rattle.touching.specs.Touch.{ranges_meet, overlap as overlapZ, touches as touchesZ, Sighted, Touchable, TouchRule};

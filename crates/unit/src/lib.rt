@@ -1,5 +1,6 @@
 // One unit of a rig: its vector at the start, its turn, its hitch and its fold limit.
 #![tactic(auto)]
+
 ghost use Rattle.std.specs.Prelude.{◌≡◌};
 ghost use Rattle.plane.specs.Vector.{times, nearest_v};
 ghost use Rattle.plane.specs.Wheelbase.{is_wheelbase};

@@ -1,5 +1,6 @@
 // The walk of a rig along a path: its record, its tests and its step, by value and writing no run.
 #![tactic(auto)]
+
 ghost use Rattle.walk.specs.Rigid.{StepRule};
 ghost use Rattle.walk.specs.Hitches.{HitchPlace};
 

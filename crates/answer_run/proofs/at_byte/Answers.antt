@@ -1,6 +1,5 @@
 -- `answer_run::at_byte` meets its contract.
 use native.Mathlib.Omega.{arith}
-
 use Rattle.answer_run.proofs.at_byte.Goals as goal
 
 pub returns : goal.returns

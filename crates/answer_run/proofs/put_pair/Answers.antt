@@ -3,7 +3,6 @@ use native.Mathlib.Omega.{arith}
 use native.Mathlib.Numerals.{add-one}
 use lib.ListN.{length-set}
 use mir.Facts.{to_z-of_z}
-
 use Rattle.answer_run.proofs.put_pair.Goals as goal
 
 pub bounds-run-at-2 : goal.bounds-run-at-2

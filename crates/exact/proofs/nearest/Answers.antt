@@ -8,7 +8,6 @@ use mir.Val.{SFits}
 use mir.Facts.{to_z-of_z}
 use Rattle.exact.specs.Nearest.{nearest_z}
 use Rattle.exact.proofs.Division.{bits_positive, quotient_fits, remainder_fits, nearest_fits, sum_fits, negation_fits, difference_fits, below_away, below_stays, above_away, above_stays}
-
 use Rattle.exact.proofs.nearest.Goals as goal
 use Rattle.exact.proofs.nearest.Goals.{Else-r-lt0, Start, Then-d-r, Then-d-r-2, Then-r-lt0}
 

@@ -2,7 +2,6 @@
 use native.Mathlib.Omega.{arith}
 use mir.Syntax.{w64}
 use mir.Facts.{to_z_pos}
-
 use Rattle.exact.proofs.wide.Goals as goal
 
 pub returns : goal.returns

@@ -2,7 +2,6 @@
 use mathlib.Core.Path.{◌∙◌}
 use mir.Syntax.{w32, w64}
 use mir.Facts.{to_z-of_z, sfits_widen}
-
 use Rattle.exact.proofs.wide_signed.Goals as goal
 
 pub overflow_cast-result : goal.overflow_cast-result

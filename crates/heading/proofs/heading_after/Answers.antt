@@ -8,7 +8,6 @@ use Rattle.exact.proofs.Polynomial.{Expr, var, lit, ◌⊖◌, ◌⊗◌}
 use Rattle.exact.proofs.Machine.{Bounded, fits, held}
 use Rattle.heading.specs.Turn.{turned_by, Tangent}
 use Rattle.heading.proofs.Steering.{steering_bounds, right_tangent, right_heading, left_tangent, left_heading, straight_heading}
-
 use Rattle.heading.proofs.heading_after.Goals as goal
 use Rattle.heading.proofs.heading_after.Goals.{Start, Then-r-gt0, Then-r-lt0}
 

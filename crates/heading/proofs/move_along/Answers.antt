@@ -7,7 +7,6 @@ use Rattle.exact.proofs.Machine.{Bounded, fits, held}
 use Rattle.plane.specs.declared.Vec2.{Vec2}
 use Rattle.plane.specs.Vector.{nearest_v}
 use Rattle.heading.proofs.Steering.{move_bounds}
-
 use Rattle.heading.proofs.move_along.Goals as goal
 use Rattle.heading.proofs.move_along.Goals.{After-struct_told-4-1}
 

@@ -6,7 +6,6 @@ use lib.IntN.{pos, ◌*ℤ◌}
 use Rattle.plane.specs.Length.{heading_length, Near}
 use Rattle.heading.specs.Turn.{heading_after, move_of}
 use Rattle.heading.proofs.Steering.{after_near}
-
 use Rattle.heading.proofs.path_step.Goals as goal
 use Rattle.heading.proofs.path_step.Goals.{After-heading_after-heading, Start}
 

@@ -6,7 +6,6 @@ use mir.Syntax.{w32}
 use mir.Val.{to_z, of_z}
 use Rattle.job.specs.Allowed.{between}
 use Rattle.heading.proofs.Steering.{straight_allowed, arc_allowed}
-
 use Rattle.heading.proofs.radius_allowed.Goals as goal
 use Rattle.heading.proofs.radius_allowed.Goals.{After-size_of-size}
 

@@ -6,7 +6,6 @@ use mir.Val.{SFits}
 use mir.Facts.{to_z-of_z}
 use Rattle.exact.proofs.Machine.{reread}
 use Rattle.heading.proofs.Steering.{minus_fits}
-
 use Rattle.heading.proofs.radius_of.Goals as goal
 use Rattle.heading.proofs.radius_of.Goals.{After-wide, After-wide-in-Left}
 

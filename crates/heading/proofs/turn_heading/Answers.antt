@@ -10,7 +10,6 @@ use Rattle.plane.proofs.Keeping.{turned_drawable}
 use Rattle.plane.specs.Length.{heading_length}
 use Rattle.heading.specs.Turn.{rotated, rotation_scale, drawn_heading}
 use Rattle.heading.proofs.Rotation.{tangent_bounds, tangent_turned}
-
 use Rattle.heading.proofs.turn_heading.Goals as goal
 use Rattle.heading.proofs.turn_heading.Goals.{After-struct_told-2-1, Start}
 

@@ -17,7 +17,6 @@ use Rattle.job.specs.Allowed.{between}
 use Rattle.job.specs.Curves.{radius_allowed}
 use Rattle.heading.specs.PathTurn.{Steerable}
 use Rattle.heading.proofs.PathAnswers.{refused_heading, refused_step_lem, refused_radius, turned_path}
-
 use Rattle.heading.proofs.turn_path.Goals as goal
 use Rattle.heading.proofs.turn_path.Goals.{After-radius_allowed-radius, After-wide_signed, Else-not-heading, Else-not-radius, Else-not-step, Start}
 

@@ -1,6 +1,5 @@
 -- `job::curve_allowed` meets its contract. Assumes nothing.
 
-
 use Rattle.job.proofs.curve_allowed.Goals as goal
 
 pub returns-in-Arc : goal.returns-in-Arc

@@ -1,7 +1,6 @@
 -- `job::empty_elements` meets its contract. Assumes nothing.
 use mathlib.Core.Path.{refl}
 use Rattle.job.specs.Empty.{empty_elements}
-
 use Rattle.job.proofs.empty_elements.Goals as goal
 
 pub returns : goal.returns

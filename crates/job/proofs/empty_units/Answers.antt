@@ -1,6 +1,5 @@
 -- `job::empty_units` meets its contract. Assumes nothing.
 use Rattle.job.specs.Empty.{empty_units}
-
 use Rattle.job.proofs.empty_units.Goals as goal
 
 pub returns : goal.returns

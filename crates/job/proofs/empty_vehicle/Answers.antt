@@ -1,6 +1,5 @@
 -- `job::empty_vehicle` meets its contract. Assumes nothing.
 
-
 use Rattle.job.proofs.empty_vehicle.Goals as goal
 
 pub returns : goal.returns

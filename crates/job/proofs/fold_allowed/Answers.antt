@@ -2,7 +2,6 @@
 use mathlib.Core.Path.{◌∙◌, ap}
 use lib.IntN.{nat_abs}
 use Rattle.number.proofs.SignedLaws.{kept}
-
 use Rattle.job.proofs.fold_allowed.Goals as goal
 
 pub returns-then-first : goal.returns-then-first

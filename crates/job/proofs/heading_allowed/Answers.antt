@@ -2,7 +2,6 @@
 use Rattle.number.proofs.SignedLaws.{kept}
 use Rattle.job.specs.Allowed.{heading_allowed}
 use Rattle.job.proofs.Wide.{wide, wide_fits}
-
 use Rattle.job.proofs.heading_allowed.Goals as goal
 
 pub overflow_cast-x : goal.overflow_cast-x

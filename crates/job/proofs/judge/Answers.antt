@@ -8,7 +8,6 @@ use Rattle.number.proofs.FieldCodec.{both, within_most}
 use Rattle.job.specs.Allowed.{start_allowed, step_allowed, element_count_allowed}
 use Rattle.job.specs.Faults.{judge, vehicle_fault}
 use Rattle.job.proofs.FaultLaws.{first_of_lem}
-
 use Rattle.job.proofs.judge.Goals as goal
 use Rattle.job.proofs.judge.Goals.{Else-fault-ne0, Else-not-is_within, Else-not-is_within_count, Else-not-start_allowed}
 

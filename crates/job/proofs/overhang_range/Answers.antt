@@ -1,6 +1,5 @@
 -- `job::overhang_range` meets its contract. Assumes nothing.
 
-
 use Rattle.job.proofs.overhang_range.Goals as goal
 
 pub returns-in-Short : goal.returns-in-Short

@@ -3,7 +3,6 @@ use mathlib.Core.Path.{◌≡◌}
 use mir.Syntax.{w32}
 use mir.Val.{to_z, of_z}
 use borrow.Author.Rules.{rules}
-
 use Rattle.job.proofs.start_allowed.Goals as goal
 
 pub returns : goal.returns

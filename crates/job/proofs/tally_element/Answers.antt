@@ -3,7 +3,6 @@ use native.Mathlib.Omega.{arith}
 use Prim.Native.Nat.{◌<◌, ◌/◌, ◌^◌}
 use native.Mathlib.Nat.{div-le_self}
 use borrow.Author.Tests.{eq-eqb, ne_eqb}
-
 use Rattle.job.proofs.tally_element.Goals as goal
 use Rattle.job.proofs.tally_element.Goals.{Start}
 

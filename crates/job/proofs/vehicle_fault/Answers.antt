@@ -5,7 +5,6 @@ use Rattle.number.proofs.FieldCodec.{within_most}
 use Rattle.job.specs.Allowed.{unit_count_allowed}
 use Rattle.job.specs.Faults.{vehicle_fault}
 use Rattle.job.proofs.FaultLaws.{first_of_lem}
-
 use Rattle.job.proofs.vehicle_fault.Goals as goal
 use Rattle.job.proofs.vehicle_fault.Goals.{Else-not-is_within_count}
 

@@ -7,7 +7,6 @@ use borrow.Rule.Slice.PartMut.{mid_len}
 use Rattle.io.proofs.Counting.{prefix_len_of_le}
 use Rattle.job_input.specs.declared.Input.{Input}
 use Rattle.job_input.specs.Input.{InputEnsures}
-
 use Rattle.job_input.proofs.read_input.Goals as goal
 use Rattle.job_input.proofs.read_input.Goals.{After-buffer-1, At-loop-done}
 use Rattle.job_input.proofs.read_input.Lts as lts

@@ -1,6 +1,5 @@
 -- `job_reader::passed_refusal` meets its contract. Assumes nothing.
 
-
 use Rattle.job_reader.proofs.passed_refusal.Goals as goal
 
 pub returns-in_default : goal.returns-in_default

@@ -7,7 +7,6 @@ use Rattle.job.specs.Empty.{empty_vehicle, empty_start, empty_job}
 use Rattle.job_reader.specs.Record.{read_vehicle, read_start, read_path, read_record, read_job}
 use Rattle.job_reader.specs.Answers.{beside}
 use Rattle.job_reader.proofs.PartLaws.{shown}
-
 use Rattle.job_reader.proofs.read_job.Goals as goal
 use Rattle.job_reader.proofs.read_job.Lts as lts
 use Rattle.job_reader.proofs.read_job.Reads as reads

@@ -4,7 +4,6 @@ use native.Mathlib.Omega.{arith}
 use borrow.Author.Rules.{rules}
 use Rattle.number.proofs.ManyLaws.{next_of, none_of}
 use Rattle.number.proofs.Writing.{begin, wrote, finish}
-
 use Rattle.job_writer.proofs.copy_bytes.Goals as goal
 
 pub loop-i-init : goal.loop-i-init

@@ -11,7 +11,6 @@ use Rattle.job_writer.proofs.AnswerLaws.{refuses, writes, encoded_count, encoded
 use Rattle.job.proofs.Arrays.{unmapped}
 use Rattle.job_writer.proofs.LengthLaws.{record_length_lem}
 use borrow.Author.Rules.{rules}
-
 use Rattle.job_writer.proofs.write_job.Goals as goal
 use Rattle.job_writer.proofs.write_job.Goals.{Start}
 use Rattle.job_writer.proofs.write_job.Lts as lts

@@ -5,7 +5,6 @@ use lib.Dec.{leb}
 use lib.ListN.{get_or}
 use lib.IntN.{pos, nat_abs}
 use Rattle.number.proofs.SignedLaws.{kept}
-
 use Rattle.kerb_line.proofs.coordinate_sound.Goals as goal
 
 pub returns : goal.returns

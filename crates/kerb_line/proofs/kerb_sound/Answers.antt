@@ -6,7 +6,6 @@ use native.Mathlib.Omega.{arith}
 use Rattle.kerb_line.specs.Kerb.{KerbRuns, kerb_runs, vertex_at, vertex_sound, kerb_sound}
 use Rattle.kerb_line.specs.Inner.{VertexLent}
 use Rattle.kerb_line.proofs.KerbLaws.{vertex_lent, sound_none, sound_next, unsound}
-
 use Rattle.kerb_line.proofs.kerb_sound.Goals as goal
 use Rattle.kerb_line.proofs.kerb_sound.Goals.{After-coordinate_sound-in-loop-i, In-loop-i, Start}
 

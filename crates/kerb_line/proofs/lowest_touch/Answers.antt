@@ -7,7 +7,6 @@ use Rattle.kerb_line.specs.Kerb.{KerbRuns, kerb_runs, vertices}
 use Rattle.kerb_line.specs.Contact.{segments, lowest_touch}
 use Rattle.kerb_line.proofs.LowestLaws.{found, none_found}
 use borrow.Author.Rules.{rules}
-
 use Rattle.kerb_line.proofs.lowest_touch.Goals as goal
 use Rattle.kerb_line.proofs.lowest_touch.Goals.{Start}
 

@@ -1,6 +1,5 @@
 -- `kerb_line::vertex_at` meets its contract.
 use Rattle.exact.proofs.Machine.{reread_result}
-
 use Rattle.kerb_line.proofs.vertex_at.Goals as goal
 
 pub returns : goal.returns

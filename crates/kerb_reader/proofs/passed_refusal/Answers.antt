@@ -1,6 +1,5 @@
 -- `kerb_reader::passed_refusal` meets its contract.
 
-
 use Rattle.kerb_reader.proofs.passed_refusal.Goals as goal
 
 pub returns-in_default : goal.returns-in_default

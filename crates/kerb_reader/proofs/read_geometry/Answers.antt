@@ -4,7 +4,6 @@ use borrow.Author.Tests.{eq-eqb, ne_eqb}
 use Rattle.kerb_reader.specs.Geometry.{empty_survey, read_survey, read_geometry}
 use Rattle.kerb_reader.specs.Answers.{beside}
 use Rattle.kerb_reader.proofs.PartLaws.{shown}
-
 use Rattle.kerb_reader.proofs.read_geometry.Goals as goal
 use Rattle.kerb_reader.proofs.read_geometry.Lts as lts
 use Rattle.kerb_reader.proofs.read_geometry.Reads as reads

@@ -1,7 +1,6 @@
 -- `kerb_reader::read_kerb` meets its contract: a survey that was read is written, and a refusal stands.
 use Rattle.kerb_reader.proofs.PartLaws.{came_through, turned_down_lem}
 use Rattle.kerb_reader.proofs.Limits.{read_within_lem, kerb_written, kerb_refused}
-
 use Rattle.kerb_reader.proofs.read_kerb.Goals as goal
 
 pub write_survey-requires : goal.write_survey-requires

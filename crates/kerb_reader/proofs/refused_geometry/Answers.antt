@@ -1,6 +1,5 @@
 -- `kerb_reader::refused_geometry` meets its contract.
 
-
 use Rattle.kerb_reader.proofs.refused_geometry.Goals as goal
 
 pub returns : goal.returns

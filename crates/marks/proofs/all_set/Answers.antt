@@ -5,7 +5,6 @@ use native.Mathlib.Omega.{arith}
 use lib.Pow.{pow_pos}
 use Rattle.marks.proofs.Bits.{shifted}
 use Rattle.marks.proofs.AllSet.{by_remainder}
-
 use Rattle.marks.proofs.all_set.Goals as goal
 use Rattle.marks.proofs.all_set.Goals.{Start}
 

@@ -4,7 +4,6 @@ use borrow.Author.Tests.{eq-eqb, ne_eqb}
 use lib.Pow.{pow_pos}
 use Rattle.marks.specs.Marks.{mark_width}
 use Rattle.marks.proofs.Bits.{shifted, sum_fits}
-
 use Rattle.marks.proofs.with_bit.Goals as goal
 
 pub nonzero_div-mark : goal.nonzero_div-mark

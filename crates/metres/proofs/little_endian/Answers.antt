@@ -5,7 +5,6 @@ use native.Mathlib.Omega.{arith}
 use lib.ListN.{get_or}
 use Rattle.metres.specs.Bytes.{little_endian}
 use Rattle.metres.proofs.ByteLaws.{none_read, one_more, AllBytes, below_7}
-
 use Rattle.metres.proofs.little_endian.Goals as goal
 use Rattle.metres.proofs.little_endian.Lts as lts
 use Rattle.metres.proofs.little_endian.Reads as reads

@@ -18,7 +18,6 @@ use Rattle.exact.proofs.Order.{pos-≤}
 use Rattle.exact.proofs.Sizes.{within_neg, fits64}
 use Rattle.exact.proofs.Machine.{reread, reread_result}
 use Rattle.metres.proofs.Whole.{field, digits, sized_no_nan, field_most, far_below, by_digits}
-
 use Rattle.metres.proofs.nearest_whole.Goals as goal
 use Rattle.metres.proofs.nearest_whole.Goals.{Else-exponent-lt1013, Start}
 

@@ -2,7 +2,6 @@
 use mathlib.Core.Path.{sym}
 use Rattle.metres.specs.Bytes.{metres_at}
 use Rattle.metres.proofs.Fields.{no_number, value, number, no_nan_bits}
-
 use Rattle.metres.proofs.read_metres.Goals as goal
 
 pub returns-then-bits-eq-NOT_FINITE : goal.returns-then-bits-eq-NOT_FINITE

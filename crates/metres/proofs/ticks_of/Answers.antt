@@ -1,6 +1,5 @@
 -- `metres::ticks_of` meets its contract.
 use Rattle.exact.proofs.Machine.{reread_result}
-
 use Rattle.metres.proofs.ticks_of.Goals as goal
 
 pub returns : goal.returns

@@ -4,7 +4,6 @@ use lib.Ieee.{Float, binary64, of_bits, mul}
 use Rattle.exact.proofs.Machine.{reread_result}
 use Rattle.metres.specs.Tick.{tick_of, nearest_whole, ticks_aMetre}
 use Rattle.metres.proofs.SizeLaws.{product_sized}
-
 use Rattle.metres.proofs.to_tick.Goals as goal
 
 -- 10,000 as the machine has it, by its bits

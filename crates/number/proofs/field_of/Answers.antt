@@ -7,7 +7,6 @@ use mir.Syntax.{w32}
 use mir.Val.{to_z, of_z}
 use mir.ValLaws.{to_z-of_z}
 use Rattle.number.proofs.SignedLaws.{Neg, Pos, neg, nonneg, back_neg}
-
 use Rattle.number.proofs.field_of.Goals as goal
 use Rattle.number.proofs.field_of.Goals.{Else-z-lt0, Then-z-lt0}
 

@@ -1,6 +1,5 @@
 -- `number::groups_refusal` meets its contract. Assumes nothing.
 
-
 use Rattle.number.proofs.groups_refusal.Goals as goal
 
 pub returns-in_default : goal.returns-in_default

@@ -1,6 +1,5 @@
 -- `number::number_refusal` meets its contract. Assumes nothing.
 
-
 use Rattle.number.proofs.number_refusal.Goals as goal
 
 pub returns-in_default : goal.returns-in_default

@@ -1,7 +1,6 @@
 -- `number::read` meets its contract. Assumes nothing.
 use borrow.Author.Tests.{lt-ltb, le-ltb}
 use Rattle.number.specs.Number.{read_number}
-
 use Rattle.number.proofs.read.Goals as goal
 
 pub returns-in_default : goal.returns-in_default

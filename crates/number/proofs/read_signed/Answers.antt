@@ -2,7 +2,6 @@
 use borrow.Author.Rules.{sfits_of}
 use Rattle.number.specs.Field.{signed_number}
 use Rattle.number.proofs.SignedLaws.{kept}
-
 use Rattle.number.proofs.read_signed.Goals as goal
 
 pub returns-in_default : goal.returns-in_default

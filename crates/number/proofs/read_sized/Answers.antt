@@ -6,7 +6,6 @@ use mir.Val.{to_z, of_z}
 use borrow.Author.Tests.{le-leb, lt-leb}
 use Rattle.number.specs.Field.{signed_field}
 use borrow.Author.Rules.{rules}
-
 use Rattle.number.proofs.read_sized.Goals as goal
 use Rattle.number.proofs.read_sized.Lts as lts
 use Rattle.number.proofs.read_sized.Reads as reads

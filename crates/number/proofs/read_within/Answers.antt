@@ -1,7 +1,6 @@
 -- `number::read_within` meets its contract. Assumes nothing.
 use mathlib.Core.Path.{sym, ◌∙◌}
 use Rattle.number.specs.Field.{field}
-
 use Rattle.number.proofs.read_within.Goals as goal
 
 pub returns-in_default : goal.returns-in_default

@@ -5,7 +5,6 @@ use Prim.Native.Nat.{◌<◌, ◌/◌, ◌^◌}
 use mir.Syntax.{w32}
 use mir.ValLaws.{to_z_pos}
 use Rattle.number.proofs.SignedLaws.{less_pos, back_less}
-
 use Rattle.number.proofs.signed_of.Goals as goal
 use Rattle.number.proofs.signed_of.Goals.{Start}
 

@@ -1,6 +1,5 @@
 -- `number::signed_refusal` meets its contract. Assumes nothing.
 
-
 use Rattle.number.proofs.signed_refusal.Goals as goal
 
 pub returns-in_default : goal.returns-in_default

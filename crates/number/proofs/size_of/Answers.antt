@@ -2,7 +2,6 @@
 use mathlib.Core.Path.{ap, ◌∙◌}
 use Rattle.number.specs.Signed.{field_of}
 use Rattle.number.proofs.SignedLaws.{kept, size_is}
-
 use Rattle.number.proofs.size_of.Goals as goal
 
 pub returns : goal.returns

@@ -2,7 +2,6 @@
 use native.Mathlib.Omega.{arith}
 use lib.ListN.{length-set}
 use Rattle.number.proofs.Writing.{start, turn, inside, last}
-
 use Rattle.number.proofs.write.Goals as goal
 
 pub loop-y-init : goal.loop-y-init

@@ -14,7 +14,6 @@ use Rattle.path.specs.Stations.{start_station, stations}
 use Rattle.path.specs.Laying.{PathRuns, path_runs, room_for, written, stations_over, Layable, LayEnsures}
 use Rattle.job.proofs.Arrays.{unmapped}
 use Rattle.path.proofs.JobLaws.{accepted, stations_count, fault_answered, no_room_answered, laid_answered}
-
 use Rattle.path.proofs.lay.Goals as goal
 use Rattle.path.proofs.lay.Goals.{After-step_count-steps, Else-fault-ne0, Start, Then-n-xs}
 

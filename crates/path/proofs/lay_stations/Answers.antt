@@ -18,7 +18,6 @@ use Rattle.path.specs.Cursor.{cursor_after, OnElement}
 use Rattle.path.specs.Laying.{PathRuns, path_runs, room_for, written, stored, start_at, Storable}
 use Rattle.path.proofs.JobLaws.{start_sound}
 use Rattle.path.proofs.LayLaws.{written_at, written_next, SameLengths, stored_lengths, room_for_fewer, Laying, laying_start, laying_next, laying_end, storable_next, on_path, on_element, Usable, usable}
-
 use Rattle.path.proofs.lay_stations.Goals as goal
 use Rattle.path.proofs.lay_stations.Goals.{After-gys-1, After-next_cursor-c, In-loop-i, Start}
 

@@ -1,6 +1,5 @@
 -- `path::least` meets its contract.
 use borrow.Author.Tests.{le-leb, lt-leb}
-
 use Rattle.path.proofs.least.Goals as goal
 
 pub returns-then-a-b : goal.returns-then-a-b

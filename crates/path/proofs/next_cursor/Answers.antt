@@ -7,7 +7,6 @@ use mir.Syntax.{w32}
 use mir.Val.{Fits}
 use Rattle.path.specs.Cursor.{step_length, cursor_after, Reachable}
 use Rattle.path.proofs.CursorLaws.{step_length_lem, ticks_left_lem, none_left, reachable}
-
 use Rattle.path.proofs.next_cursor.Goals as goal
 use Rattle.path.proofs.next_cursor.Goals.{After-least-s, Start}
 

@@ -9,7 +9,6 @@ use Rattle.job.specs.Curves.{radius_of}
 use Rattle.heading.specs.declared.Advance.{Advance}
 use Rattle.heading.specs.PathTurn.{advance_of, Steerable}
 use Rattle.path.proofs.StationLaws.{steerable, shift_moderate}
-
 use Rattle.path.proofs.next_station.Goals as goal
 use Rattle.path.proofs.next_station.Goals.{After-path_step-a, After-wide, Start}
 

@@ -5,7 +5,6 @@ use lib.IntN.{ℤ}
 use mir.Syntax.{w32, w64}
 use mir.Val.{to_z, of_z}
 use mir.Facts.{to_z-of_z}
-
 use Rattle.path.proofs.start_station.Goals as goal
 
 -- a field as it was handed over

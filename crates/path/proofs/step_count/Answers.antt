@@ -7,7 +7,6 @@ use lib.ListN.{take, drop, get_or}
 use Rattle.job.specs.Steps.{tally}
 use Rattle.job.specs.Empty.{empty_element}
 use Rattle.path.proofs.TotalLaws.{total_next, total_end, total_grows}
-
 use Rattle.path.proofs.step_count.Goals as goal
 
 pub loop-i-init : goal.loop-i-init

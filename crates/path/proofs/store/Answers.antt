@@ -12,7 +12,6 @@ use Rattle.plane.specs.Run.{Stored}
 use Rattle.heading.proofs.Rotation.{heading_within}
 use Rattle.path.specs.Laying.{PathRuns, path_runs}
 use Rattle.path.proofs.StoreLaws.{stored_entry, room}
-
 use Rattle.path.proofs.store.Goals as goal
 use Rattle.path.proofs.store.Goals.{Start}
 

@@ -2,7 +2,6 @@
 use Rattle.exact.proofs.Polynomial.{var, ◌⊕◌, ◌⊗◌}
 use Rattle.exact.proofs.Machine.{fits, held}
 use Rattle.plane.proofs.Pairs.{pair_bounds}
-
 use Rattle.plane.proofs.dot.Goals as goal
 
 pub overflow_mul-result : goal.overflow_mul-result

@@ -4,7 +4,6 @@ use borrow.Author.Rules.{rules}
 use Rattle.exact.proofs.Machine.{reread}
 use Rattle.plane.specs.Vector.{nearest_v}
 use Rattle.plane.specs.Settle.{settle_z, Settleable}
-
 use Rattle.plane.proofs.draw.Goals as goal
 use Rattle.plane.proofs.draw.Goals.{After-nearest_vector}
 

@@ -5,7 +5,6 @@ use lib.ListN.{get_or}
 use mir.Syntax.{w32, w64}
 use mir.Val.{SFits}
 use mir.Facts.{to_z-of_z, sfits_widen}
-
 use Rattle.plane.proofs.get.Goals as goal
 use Rattle.plane.proofs.get.Goals.{After-result-1}
 

@@ -12,7 +12,6 @@ use Rattle.exact.proofs.Sizes.{within}
 use Rattle.exact.proofs.Machine.{Bounded, none, ◌∷ᵇ◌, reread, fits, held}
 use Rattle.plane.specs.Length.{has_length, Nominal}
 use Rattle.plane.proofs.Lengths.{box, box_within, outside_box}
-
 use Rattle.plane.proofs.has_length.Goals as goal
 use Rattle.plane.proofs.has_length.Goals.{After-struct_told-2-1, Start, Then-low-x}
 

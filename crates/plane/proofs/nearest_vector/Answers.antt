@@ -5,7 +5,6 @@ use mir.Syntax.{w64}
 use mir.Facts.{to_z-of_z}
 use Rattle.exact.specs.Nearest.{nearest_z}
 use Rattle.exact.proofs.Machine.{reread}
-
 use Rattle.plane.proofs.nearest_vector.Goals as goal
 
 pub returns : goal.returns

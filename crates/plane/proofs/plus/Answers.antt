@@ -2,7 +2,6 @@
 use Rattle.exact.proofs.Polynomial.{var, ◌⊕◌}
 use Rattle.exact.proofs.Machine.{fits, held}
 use Rattle.plane.proofs.Pairs.{pair_bounds}
-
 use Rattle.plane.proofs.plus.Goals as goal
 
 pub overflow_add-result : goal.overflow_add-result

@@ -1,7 +1,6 @@
 -- `plane::put` meets its contract.
 use mir.Facts.{to_z-of_z}
 use Rattle.plane.proofs.Stores.{stored_fits}
-
 use Rattle.plane.proofs.put.Goals as goal
 
 pub overflow_cast-s : goal.overflow_cast-s

@@ -6,7 +6,6 @@ use Rattle.exact.proofs.Polynomial.{Expr, var, lit, ◌⊕◌, ◌⊖◌, ◌⊗
 use Rattle.exact.proofs.Machine.{Bounded, fits, held, via}
 use Rattle.plane.specs.Vector.{nearest_v}
 use Rattle.plane.proofs.SettleSizes.{settle_bounds, twice_square_positive}
-
 use Rattle.plane.proofs.settle.Goals as goal
 use Rattle.plane.proofs.settle.Goals.{After-struct_told-2-1}
 

@@ -1,6 +1,5 @@
 -- `points::along_of` meets its contract.
 use borrow.Author.Rules.{rules}
-
 use Rattle.points.proofs.along_of.Goals as goal
 
 pub returns-in-Corner : goal.returns-in-Corner

@@ -3,7 +3,6 @@ use Prim.Native.Nat.{ℕ}
 use mathlib.Core.Path.{sym, ◌∙◌, ap}
 use lib.ListN.{get_or}
 use Rattle.points.specs.Ends.{no_place, front_end, rear_end}
-
 use Rattle.points.proofs.end_of.Goals as goal
 
 pub returns-then-is_front : goal.returns-then-is_front

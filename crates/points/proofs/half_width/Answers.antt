@@ -1,7 +1,6 @@
 -- `points::half_width` meets its contract.
 use Rattle.exact.proofs.Machine.{reread_result}
 use borrow.Author.Rules.{rules}
-
 use Rattle.points.proofs.half_width.Goals as goal
 
 pub returns-in-Corner : goal.returns-in-Corner

@@ -9,7 +9,6 @@ use Rattle.exact.proofs.Sizes.{fits64}
 use Rattle.exact.proofs.Machine.{Bounded, none, ◌∷ᵇ◌, reread, fits, held}
 use Rattle.plane.specs.Vector.{nearest_v}
 use Rattle.unit.proofs.UnitSizes.{near_sized, wheelbase_positive, wheelbase_sized}
-
 use Rattle.points.proofs.offset_from.Goals as goal
 use Rattle.points.proofs.offset_from.Goals.{Start}
 

@@ -3,7 +3,6 @@ use lib.Dec.{lit≤}
 use Rattle.exact.proofs.Machine.{reread_result}
 use Rattle.walk.proofs.DrawLaws.{vector_sized, sized_moderate}
 use Rattle.points.proofs.EndLaws.{place_moderate}
-
 use Rattle.points.proofs.place_of.Goals as goal
 
 pub minus-requires : goal.minus-requires

@@ -13,7 +13,6 @@ use Rattle.points.specs.Points.{point_at, end_of, along_of, half_width, side_of,
 use Rattle.points.specs.Requires.{OffsetSized}
 use Rattle.points.proofs.EndLaws.{place_moderate}
 use Rattle.points.proofs.PointLaws.{width_sized, row_asked, offset_sized}
-
 use Rattle.points.proofs.point.Goals as goal
 use Rattle.points.proofs.point.Goals.{After-along_of-ahead, After-half_width, After-offset_from-offset, After-side_of-beside, Start}
 

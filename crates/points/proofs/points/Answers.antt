@@ -16,7 +16,6 @@ use Rattle.points.specs.Requires.{Measured}
 use Rattle.points.proofs.Filling.{filled_more, filled_all}
 use Rattle.points.proofs.TableLaws.{rows_enough, row_in_use}
 use Rattle.points.proofs.PointLaws.{array_sized, array_points}
-
 use Rattle.points.proofs.points.Goals as goal
 use Rattle.points.proofs.points.Goals.{In-loop-k}
 

@@ -4,7 +4,6 @@ use mathlib.Core.List.{[], ◌∷◌}
 use lib.IntN.{neg_ℤ, +ℤ_idl}
 use Rattle.exact.proofs.Polynomial.{var, lit, ◌⊖◌}
 use Rattle.exact.proofs.Machine.{Bounded, none, ◌∷ᵇ◌, fits, held}
-
 use Rattle.points.proofs.side_of.Goals as goal
 use Rattle.points.proofs.side_of.Goals.{Start}
 

@@ -12,7 +12,6 @@ use Rattle.walk.specs.Rig.{zero_vector}
 use Rattle.walk.specs.Inner.{HitchReady}
 use Rattle.points.specs.Ends.{place_of, unit_places, no_places}
 use Rattle.points.proofs.EndLaws.{place_more, hitch_placed, units_enough, vectors_enough, next_ready, placed_more, placed_all}
-
 use Rattle.points.proofs.unit_places.Goals as goal
 use Rattle.points.proofs.unit_places.Goals.{At-loop-i, Start}
 

@@ -1,7 +1,6 @@
 -- `ranking::enter` meets its contract, by the list and by the settings that the new one comes before.
 use mathlib.Core.Path.{sym, ◌∙◌}
 use Rattle.ranking.proofs.EnterLaws.{only_one, one_first, one_second, two_first, two_second, two_third, three_first, three_second, three_third, three_still}
-
 use Rattle.ranking.proofs.enter.Goals as goal
 
 pub returns-then-is_before : goal.returns-then-is_before

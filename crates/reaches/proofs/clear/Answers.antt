@@ -6,7 +6,6 @@ use borrow.Author.Rules.{rules}
 use lib.ListN.{length-set}
 use Rattle.reaches.specs.Cells.{cleared_cell}
 use Rattle.reaches.proofs.CellLaws.{none_yet, one_more}
-
 use Rattle.reaches.proofs.clear.Goals as goal
 
 pub loop-at-init : goal.loop-at-init

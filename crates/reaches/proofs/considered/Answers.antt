@@ -1,6 +1,5 @@
 -- `reaches::considered` meets its contract.
 use mathlib.Core.Path.{sym, ◌∙◌}
-
 use Rattle.reaches.proofs.considered.Goals as goal
 
 pub returns-then-all_set : goal.returns-then-all_set

@@ -22,7 +22,6 @@ use Rattle.reaches.specs.Inner.{AllMoves}
 use Rattle.reaches.specs.Far.{Spread, PairSpread, AtStation}
 use Rattle.reaches.proofs.CellLaws.{none_yet, one_more, SameLengths, lengths_of_lem, same_room}
 use Rattle.reaches.proofs.CoordinateLaws.{points_back}
-
 use Rattle.reaches.proofs.cross.Goals as goal
 use Rattle.reaches.proofs.cross.Goals.{At-loop-i, In-loop-i, Start}
 use Rattle.reaches.proofs.cross.Lts as lts

@@ -16,7 +16,6 @@ use Rattle.reaches.specs.Crossing.{crossed_station}
 use Rattle.reaches.proofs.CellLaws.{SameLengths}
 use Rattle.reaches.proofs.CrossingLaws.{left_so}
 use Rattle.reaches.proofs.PairLaws.{pair_passed, pairs_end}
-
 use Rattle.reaches.proofs.cross_near_station.Goals as goal
 use Rattle.reaches.proofs.cross_near_station.Goals.{After-enter_station, At-loop-k, In-loop-k, Start}
 

@@ -10,7 +10,6 @@ use Rattle.reaches.specs.Coordinates.{points_of}
 use Rattle.reaches.specs.Far.{far_off, PairSpread}
 use Rattle.reaches.proofs.CrossingLaws.{left_so}
 use Rattle.reaches.proofs.FarLaws.{far_none}
-
 use Rattle.reaches.proofs.cross_station.Goals as goal
 use Rattle.reaches.proofs.cross_station.Goals.{Start}
 

@@ -8,7 +8,6 @@ use Rattle.reaches.specs.Cells.{reach_runs, cell_at}
 use Rattle.reaches.specs.Coordinates.{points_of}
 use Rattle.reaches.specs.Crossing.{crossed_from}
 use borrow.Author.Rules.{rules}
-
 use Rattle.reaches.proofs.enter_station.Goals as goal
 use Rattle.reaches.proofs.enter_station.Goals.{Start}
 use Rattle.reaches.proofs.enter_station.Lts as lts

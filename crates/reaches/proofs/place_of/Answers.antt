@@ -8,7 +8,6 @@ use mir.Val.{SFits}
 use Rattle.exact.specs.Size.{Within}
 use Rattle.exact.proofs.Polynomial.{var, ◌⊖◌}
 use Rattle.exact.proofs.Machine.{Bounded, none, ◌∷ᵇ◌, fits, held, reread32, within32}
-
 use Rattle.reaches.proofs.place_of.Goals as goal
 use Rattle.reaches.proofs.place_of.Goals.{After-wide_signed-right, Start}
 

@@ -2,7 +2,6 @@
 use mathlib.Core.Path.{◌≡◌}
 use borrow.Author.Rules.{rules}
 use Rattle.exact.proofs.Machine.{reread}
-
 use Rattle.reaches.proofs.wider.Goals as goal
 use Rattle.reaches.proofs.wider.Goals.{Start}
 use Rattle.reaches.proofs.wider.Lts as lts

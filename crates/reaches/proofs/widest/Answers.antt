@@ -11,7 +11,6 @@ use Rattle.walk.proofs.VehicleTests.{units_counted}
 use Rattle.reaches.specs.Cells.{Reaches, reach_runs}
 use Rattle.reaches.specs.Widest.{widest_lent, widest_among}
 use Rattle.reaches.proofs.WidestLaws.{lent_room, not_lent, not_sound, answered}
-
 use Rattle.reaches.proofs.widest.Goals as goal
 use Rattle.reaches.proofs.widest.Goals.{Start}
 use Rattle.reaches.proofs.widest.Lts as lts

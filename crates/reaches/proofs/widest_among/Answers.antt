@@ -10,7 +10,6 @@ use Rattle.reaches.specs.declared.Cell.{Cell}
 use Rattle.reaches.specs.Cells.{reach_runs}
 use Rattle.reaches.specs.Widest.{considered}
 use Rattle.reaches.proofs.WidestLaws.{none_considered, one_considered}
-
 use Rattle.reaches.proofs.widest_among.Goals as goal
 
 pub loop-i-init : goal.loop-i-init

@@ -10,7 +10,6 @@ use Rattle.reaches.specs.Cells.{Reaches, reach_runs}
 use Rattle.reaches.specs.Widest.{widest_among}
 use Rattle.stations.specs.Placing.{call_of}
 use Rattle.stations.proofs.Entering.{room_of}
-
 use Rattle.run.proofs.finished.Goals as goal
 use Rattle.run.proofs.finished.Goals.{Start}
 

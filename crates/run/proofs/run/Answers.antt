@@ -18,7 +18,6 @@ use Rattle.reaches.specs.Cells.{Reaches, reach_runs, lengths_of}
 use Rattle.run.specs.declared.Ran.TheVariants as R
 use Rattle.run.specs.Run.{RunEnsures}
 use Rattle.run.proofs.RunLaws.{run_fault, reaches_short, path_short, runnable, run_done}
-
 use Rattle.run.proofs.run.Goals as goal
 use Rattle.run.proofs.run.Goals.{Start}
 use Rattle.run.proofs.run.Lts as lts

@@ -15,7 +15,6 @@ use Rattle.reaches.specs.Cells.{Reaches, reach_runs, cleared}
 use Rattle.stations.specs.Placing.{call_of}
 use Rattle.stations.proofs.Entering.{room_of}
 use Rattle.run.proofs.OverLaws.{some_asked, heading_near, placed_going, end_tellable, told_so}
-
 use Rattle.run.proofs.run_over.Goals as goal
 use Rattle.run.proofs.run_over.Goals.{After-clear, Start}
 use Rattle.run.proofs.run_over.Lts as lts

@@ -7,7 +7,6 @@ use Rattle.run.specs.declared.Ran.{Ran}
 use Rattle.run.specs.declared.Ran.TheVariants as R
 use Rattle.run.specs.declared.Finish.{Finish}
 use Rattle.run.specs.Run.{ran_by}
-
 use Rattle.run.proofs.told.Goals as goal
 use Rattle.run.proofs.told.Goals.{Start}
 

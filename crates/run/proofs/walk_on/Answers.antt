@@ -12,7 +12,6 @@ use Rattle.reaches.proofs.CellLaws.{SameLengths}
 use Rattle.stations.specs.Placing.{call_of}
 use Rattle.stations.specs.Stepping.{StepEnsures}
 use Rattle.run.proofs.WalkingLaws.{is_open, made_by, not_made_by, at_end, stopped_here, same_lengths, one_on, still_going, goes_on}
-
 use Rattle.run.proofs.walk_on.Goals as goal
 use Rattle.run.proofs.walk_on.Goals.{After-advance_and_enter-next, At-loop-here, In-loop-here, Start}
 use Rattle.run.proofs.walk_on.Lts as lts

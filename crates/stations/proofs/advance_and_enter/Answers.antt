@@ -22,7 +22,6 @@ use Rattle.stations.specs.Inner.{Enterable}
 use Rattle.stations.proofs.StepLaws.{drawn, unit_refused, step_made, refused_not_made, unit_not_made}
 use Rattle.stations.proofs.Entering.{enterable}
 use borrow.Author.Rules.{rules}
-
 use Rattle.stations.proofs.advance_and_enter.Goals as goal
 use Rattle.stations.proofs.advance_and_enter.Goals.{Start}
 use Rattle.stations.proofs.advance_and_enter.Lts as lts

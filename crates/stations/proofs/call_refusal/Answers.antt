@@ -6,7 +6,6 @@ use Rattle.walk.specs.Drawn.{Call}
 use Rattle.walk.specs.Tests.{lent}
 use Rattle.walk.proofs.RecordTests.{lent_call}
 use Rattle.stations.proofs.CallLaws.{lent_by, not_lent, not_sound, passed}
-
 use Rattle.stations.proofs.call_refusal.Goals as goal
 use Rattle.stations.proofs.call_refusal.Goals.{Start, Then-path-reaches}
 

@@ -11,7 +11,6 @@ use Rattle.points.specs.Points.{rig_points}
 use Rattle.reaches.specs.Inner.{Crossable}
 use Rattle.reaches.specs.Crossing.{crossed}
 use Rattle.stations.proofs.Entering.{taken_as, crossable}
-
 use Rattle.stations.proofs.enter.Goals as goal
 use Rattle.stations.proofs.enter.Goals.{Start}
 use Rattle.stations.proofs.enter.Lts as lts

@@ -19,7 +19,6 @@ use Rattle.stations.proofs.CallLaws.{Passed, call_passed, place_refusal_lem, veh
 use Rattle.stations.proofs.PlaceLaws.{place_refused, place_done}
 use Rattle.stations.proofs.Entering.{room_of}
 use borrow.Author.Rules.{rules}
-
 use Rattle.stations.proofs.place.Goals as goal
 use Rattle.stations.proofs.place.Goals.{Start}
 use Rattle.stations.proofs.place.Lts as lts

@@ -5,7 +5,6 @@ use Rattle.walk.specs.Drawn.{view}
 use Rattle.walk.specs.Tests.{record_sound}
 use Rattle.stations.proofs.CallLaws.{last_is}
 use Rattle.stations.proofs.CallLaws.{at_end, ready, unsound}
-
 use Rattle.stations.proofs.record_refusal.Goals as goal
 use Rattle.stations.proofs.record_refusal.Goals.{Then-record_sound}
 

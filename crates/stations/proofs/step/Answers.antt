@@ -8,7 +8,6 @@ use Rattle.stations.specs.Placing.{call_of}
 use Rattle.stations.specs.Inner.{call_refusal, record_refusal, Open}
 use Rattle.stations.proofs.CallLaws.{call_open}
 use Rattle.stations.proofs.StepLaws.{step_refused}
-
 use Rattle.stations.proofs.step.Goals as goal
 use Rattle.stations.proofs.step.Goals.{Start}
 use Rattle.stations.proofs.step.Lts as lts

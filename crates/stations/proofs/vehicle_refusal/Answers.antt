@@ -1,7 +1,6 @@
 -- `stations::vehicle_refusal` meets its contract.
 use mathlib.Core.Path.{sym, ◌∙◌}
 use Rattle.stations.proofs.CallLaws.{vehicle_ready, vehicle_unsound}
-
 use Rattle.stations.proofs.vehicle_refusal.Goals as goal
 
 pub returns-then-vehicle_sound : goal.returns-then-vehicle_sound

@@ -3,7 +3,6 @@ use native.Mathlib.Omega.{arith}
 use borrow.Author.Rules.{rules}
 use mathlib.Core.Path.{refl}
 use Rattle.text.proofs.DecimalLaws.{count_one, count_more, some_digit, decimal_64}
-
 use Rattle.text.proofs.digit_count.Goals as goal
 
 pub loop-y-init : goal.loop-y-init

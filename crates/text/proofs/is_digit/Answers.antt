@@ -1,6 +1,5 @@
 -- `text::is_digit` meets its contract. Assumes nothing.
 use borrow.Author.Tests.{le-leb, lt-leb}
-
 use Rattle.text.proofs.is_digit.Goals as goal
 
 pub returns-then-b-ge48 : goal.returns-then-b-ge48

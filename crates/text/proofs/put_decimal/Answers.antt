@@ -3,7 +3,6 @@ use mathlib.Core.Path.{◌≡◌, sym, ◌∙◌, ap}
 use Prim.Native.Nat.{ℕ}
 use Rattle.text.specs.Decimal.{digits, decimal}
 use Rattle.text.proofs.DecimalLaws.{decimal_digits}
-
 use Rattle.text.proofs.put_decimal.Goals as goal
 use Rattle.text.proofs.put_decimal.Goals.{After-digit_count}
 

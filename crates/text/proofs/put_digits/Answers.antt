@@ -2,7 +2,6 @@
 use native.Mathlib.Omega.{arith}
 use Rattle.text.proofs.DecimalLaws.{digits_length}
 use Rattle.text.proofs.Writing.{fill_start, fill_next, fill_end}
-
 use Rattle.text.proofs.put_digits.Goals as goal
 
 pub loop-left-init : goal.loop-left-init

@@ -8,7 +8,6 @@ use lib.ListN.{length, length-set}
 use lib.Seq.{length-sets}
 use Rattle.text.specs.Decimal.{decimal, signed_decimal}
 use Rattle.text.proofs.SignedLaws.{negative, natural, kept}
-
 use Rattle.text.proofs.put_signed.Goals as goal
 use Rattle.text.proofs.put_signed.Goals.{Then-z-lt0}
 use Rattle.text.proofs.put_signed.Lts as lts

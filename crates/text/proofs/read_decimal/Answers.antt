@@ -7,7 +7,6 @@ use lib.ListN.{get_or}
 use borrow.Author.Rules.{rules}
 use Rattle.text.specs.Reading.{is_digit}
 use Rattle.text.proofs.ReadingLaws.{digit_bounds, read_nothing_lem, read_start_lem, read_other, read_large, read_next, read_end_lem}
-
 use Rattle.text.proofs.read_decimal.Goals as goal
 use Rattle.text.proofs.read_decimal.Lts as lts
 use Rattle.text.proofs.read_decimal.Reads as reads

@@ -6,7 +6,6 @@ use lib.Signed.{mag}
 use mir.Syntax.{w64}
 use mir.Val.{to_z, of_z}
 use Rattle.text.proofs.SignedLaws.{Negative, Natural, negative, natural, kept, kept_less}
-
 use Rattle.text.proofs.size_of.Goals as goal
 use Rattle.text.proofs.size_of.Goals.{Else-z-lt0, Then-z-lt0}
 

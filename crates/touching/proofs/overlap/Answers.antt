@@ -2,7 +2,6 @@
 use mathlib.Core.Path.{◌∙◌}
 use Rattle.exact.proofs.Machine.{reread_result}
 use Rattle.touching.specs.Touch.{overlap}
-
 use Rattle.touching.proofs.overlap.Goals as goal
 
 pub returns : goal.returns

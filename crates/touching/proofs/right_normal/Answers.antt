@@ -4,7 +4,6 @@ use mathlib.Core.List.{[], ◌∷◌}
 use borrow.Author.Rules.{rules}
 use Rattle.exact.proofs.Polynomial.{lit, var, neg, ◌⊖◌, ring}
 use Rattle.exact.proofs.Machine.{reread, Bounded, none, ◌∷ᵇ◌, fits, held}
-
 use Rattle.touching.proofs.right_normal.Goals as goal
 use Rattle.touching.proofs.right_normal.Goals.{Start}
 

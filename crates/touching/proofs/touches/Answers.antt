@@ -4,7 +4,6 @@ use borrow.Author.Rules.{rules}
 use lib.IntN.{ℤ}
 use Rattle.exact.proofs.Machine.{reread}
 use Rattle.touching.proofs.Apart.{apart_x, apart_y}
-
 use Rattle.touching.proofs.touches.Goals as goal
 
 -- what the two tests tell: each coordinate is read back as it is

@@ -5,7 +5,6 @@ use Rattle.plane.specs.declared.Vec2.{Vec2}
 use Rattle.plane.specs.Vector.{minus, right_normal, Moderate}
 use Rattle.touching.specs.Touch.{overlap, touches}
 use Rattle.touching.proofs.Sights.{minus_moderate, across_moderate}
-
 use Rattle.touching.proofs.touches_near.Goals as goal
 use Rattle.touching.proofs.touches_near.Goals.{After-minus-from_a_to_c, Start}
 

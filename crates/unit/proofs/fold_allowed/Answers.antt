@@ -7,7 +7,6 @@ use Rattle.exact.specs.Size.{Within}
 use Rattle.exact.proofs.Polynomial.{Expr, var, lit, ◌⊕◌, ◌⊗◌}
 use Rattle.exact.proofs.Machine.{Bounded, none, ◌∷ᵇ◌, within_size_of, fits, held}
 use Rattle.unit.specs.Coupling.{fold_allowed}
-
 use Rattle.unit.proofs.fold_allowed.Goals as goal
 use Rattle.unit.proofs.fold_allowed.Goals.{After-dot-along}
 

@@ -6,7 +6,6 @@ use Rattle.exact.proofs.Machine.{reread}
 use Rattle.plane.specs.Vector.{times, nearest_v}
 use Rattle.unit.specs.Coupling.{hitch_offset, Scalable}
 use Rattle.unit.proofs.UnitSizes.{hitched_scalable}
-
 use Rattle.unit.proofs.hitch_offset.Goals as goal
 use Rattle.unit.proofs.hitch_offset.Goals.{Start}
 

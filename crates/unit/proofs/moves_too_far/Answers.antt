@@ -11,7 +11,6 @@ use Rattle.unit.specs.Turn.{too_far}
 use Rattle.unit.proofs.Turning.{wheelbase_nominal}
 use Rattle.unit.proofs.UnitSizes.{wheelbase_sized}
 use Rattle.unit.proofs.UnitTests.{outside_far}
-
 use Rattle.unit.proofs.moves_too_far.Goals as goal
 use Rattle.unit.proofs.moves_too_far.Goals.{After-struct_told-2-1, Start, Then-low-x}
 

@@ -8,7 +8,6 @@ use Rattle.plane.specs.Vector.{times, nearest_v}
 use Rattle.unit.specs.Turn.{placed_by}
 use Rattle.unit.specs.Coupling.{Scalable}
 use Rattle.unit.proofs.UnitSizes.{placeable_scalable}
-
 use Rattle.unit.proofs.placed.Goals as goal
 use Rattle.unit.proofs.placed.Goals.{Start}
 

@@ -5,7 +5,6 @@ use borrow.Author.Rules.{rules}
 use Rattle.exact.proofs.Polynomial.{var, ◌⊗◌}
 use Rattle.exact.proofs.Machine.{Bounded, none, ◌∷ᵇ◌, reread, fits, held}
 use Rattle.plane.specs.Vector.{nearest_v}
-
 use Rattle.unit.proofs.scaled.Goals as goal
 use Rattle.unit.proofs.scaled.Goals.{After-struct_told-2-1}
 

@@ -12,7 +12,6 @@ use Rattle.unit.specs.declared.UnitTurn.TheVariants as U
 use Rattle.unit.specs.Turn.{turned_by, too_far, Wheelbase, Turnable}
 use Rattle.unit.proofs.Turning.{wheelbase_nominal}
 use Rattle.unit.proofs.UnitTests.{wheelbase_of_lem, turnable_of, refused_wheelbase, refused_length, refused_far, accepted}
-
 use Rattle.unit.proofs.turn_unit.Goals as goal
 use Rattle.unit.proofs.turn_unit.Goals.{After-moves_too_far-far, Start, Then-wheelbase_allowed}
 

@@ -6,7 +6,6 @@ use Rattle.plane.specs.Settle.{Settleable}
 use Rattle.unit.specs.Turn.{turned_by}
 use Rattle.unit.proofs.Turning.{mirrored_settleable}
 use Rattle.unit.proofs.UnitSizes.{turnable_mirrorable}
-
 use Rattle.unit.proofs.turned.Goals as goal
 use Rattle.unit.proofs.turned.Goals.{Start}
 

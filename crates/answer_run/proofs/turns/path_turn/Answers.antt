@@ -9,7 +9,6 @@ use Rattle.heading.specs.PathTurn.{path_turn}
 use Rattle.heading.specs.declared.PathTurn.{PathTurn}
 use Rattle.answer_run.specs.Turns.{path_told}
 use Rattle.answer_run.proofs.AnswerLaws.{too_short, answered_as}
-
 use Rattle.answer_run.proofs.turns.path_turn.Goals as goal
 use Rattle.answer_run.proofs.turns.path_turn.Goals.{After-turn_path, Start}
 

@@ -8,7 +8,6 @@ use Rattle.exact.proofs.Machine.{reread}
 use Rattle.heading.specs.declared.Advance.{Advance}
 use Rattle.answer_run.specs.Turns.{path_told}
 use Rattle.answer_run.proofs.EntryLaws.{written_on, told_as}
-
 use Rattle.answer_run.proofs.turns.tell_path_turn.Goals as goal
 use Rattle.answer_run.proofs.turns.tell_path_turn.Goals.{In-Turned, Start}
 use Rattle.answer_run.proofs.turns.tell_path_turn.Lts as lts

@@ -8,7 +8,6 @@ use Rattle.exact.proofs.Machine.{reread}
 use Rattle.plane.specs.declared.Vec2.{Vec2}
 use Rattle.answer_run.specs.Turns.{unit_told}
 use Rattle.answer_run.proofs.EntryLaws.{told_as}
-
 use Rattle.answer_run.proofs.turns.tell_unit_turn.Goals as goal
 use Rattle.answer_run.proofs.turns.tell_unit_turn.Goals.{In-Turned, Start}
 use Rattle.answer_run.proofs.turns.tell_unit_turn.Lts as lts

@@ -9,7 +9,6 @@ use Rattle.unit.specs.Turn.{unit_turn}
 use Rattle.unit.specs.declared.UnitTurn.{UnitTurn}
 use Rattle.answer_run.specs.Turns.{unit_told}
 use Rattle.answer_run.proofs.AnswerLaws.{too_short, answered_as}
-
 use Rattle.answer_run.proofs.turns.unit_turn.Goals as goal
 use Rattle.answer_run.proofs.turns.unit_turn.Goals.{After-turn_unit, Start}
 

@@ -1,6 +1,5 @@
 -- `job::measures::body_allowed` meets its contract. Assumes nothing.
 
-
 use Rattle.job.proofs.measures.body_allowed.Goals as goal
 
 pub returns : goal.returns

@@ -1,6 +1,5 @@
 -- `job::measures::body_fault` meets its contract. Assumes nothing.
 use mathlib.Core.Path.{◌∙◌, sym}
-
 use Rattle.job.proofs.measures.body_fault.Goals as goal
 
 pub returns-then-body_allowed : goal.returns-then-body_allowed

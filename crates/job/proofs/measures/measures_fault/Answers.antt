@@ -1,6 +1,5 @@
 -- `job::measures::measures_fault` meets its contract. Assumes nothing.
 use mathlib.Core.Path.{◌∙◌, sym}
-
 use Rattle.job.proofs.measures.measures_fault.Goals as goal
 
 pub returns-then-unit_allowed : goal.returns-then-unit_allowed

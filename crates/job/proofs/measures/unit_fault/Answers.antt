@@ -1,6 +1,5 @@
 -- `job::measures::unit_fault` meets its contract. Assumes nothing.
 
-
 use Rattle.job.proofs.measures.unit_fault.Goals as goal
 
 pub returns : goal.returns

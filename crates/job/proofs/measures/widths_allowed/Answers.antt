@@ -1,6 +1,5 @@
 -- `job::measures::widths_allowed` meets its contract. Assumes nothing.
 
-
 use Rattle.job.proofs.measures.widths_allowed.Goals as goal
 
 pub returns : goal.returns

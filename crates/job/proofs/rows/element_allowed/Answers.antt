@@ -1,6 +1,5 @@
 -- `job::rows::element_allowed` meets its contract. Assumes nothing.
 
-
 use Rattle.job.proofs.rows.element_allowed.Goals as goal
 
 pub returns : goal.returns

@@ -1,6 +1,5 @@
 -- `job_reader::body::read_body` meets its contract. Assumes nothing.
 use Rattle.job_reader.specs.Record.{read_body}
-
 use Rattle.job_reader.proofs.body.read_body.Goals as goal
 
 pub returns-in_default : goal.returns-in_default

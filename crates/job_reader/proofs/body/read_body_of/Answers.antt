@@ -1,6 +1,5 @@
 -- `job_reader::body::read_body_of` meets its contract. Assumes nothing.
 
-
 use Rattle.job_reader.proofs.body.read_body_of.Goals as goal
 
 pub returns-in_default : goal.returns-in_default

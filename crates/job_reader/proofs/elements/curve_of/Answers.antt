@@ -3,7 +3,6 @@ use mathlib.Core.Path.{◌≡◌, ap, ◌∙◌}
 use Rattle.number.specs.Signed.{field_of}
 use Rattle.number.proofs.SignedLaws.{kept}
 use Rattle.job_reader.proofs.CurveLaws.{curve_straight, curve_right, curve_left}
-
 use Rattle.job_reader.proofs.elements.curve_of.Goals as goal
 use Rattle.job_reader.proofs.elements.curve_of.Goals.{After-field_of-x}
 

@@ -5,7 +5,6 @@ use mir.Val.{to_z, of_z}
 use Rattle.job.specs.Curves.{curve_of}
 use Rattle.job_reader.specs.Record.{read_element}
 use borrow.Author.Rules.{rules}
-
 use Rattle.job_reader.proofs.elements.read_element.Goals as goal
 use Rattle.job_reader.proofs.elements.read_element.Lts as lts
 use Rattle.job_reader.proofs.elements.read_element.Reads as reads

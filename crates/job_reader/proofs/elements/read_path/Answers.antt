@@ -8,7 +8,6 @@ use Rattle.job_reader.specs.Record.{read_elements, read_path}
 use Rattle.job_reader.specs.Answers.{beside}
 use Rattle.job_reader.proofs.ReadLaws.{field_within}
 use Rattle.job_reader.proofs.PartLaws.{shown}
-
 use Rattle.job_reader.proofs.elements.read_path.Goals as goal
 use Rattle.job_reader.proofs.elements.read_path.Lts as lts
 use Rattle.job_reader.proofs.elements.read_path.Reads as reads

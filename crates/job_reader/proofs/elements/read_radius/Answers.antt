@@ -6,7 +6,6 @@ use Rattle.number.specs.Field.{signed_field}
 use Rattle.job.specs.Allowed.{curve_allowed}
 use Rattle.job.specs.Curves.{radius_allowed}
 use borrow.Author.Rules.{rules}
-
 use Rattle.job_reader.proofs.elements.read_radius.Goals as goal
 use Rattle.job_reader.proofs.elements.read_radius.Lts as lts
 use Rattle.job_reader.proofs.elements.read_radius.Reads as reads

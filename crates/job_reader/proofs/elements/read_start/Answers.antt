@@ -5,7 +5,6 @@ use mir.Val.{to_z, of_z}
 use Rattle.job.specs.Allowed.{heading_allowed}
 use Rattle.job_reader.specs.Record.{read_start}
 use borrow.Author.Rules.{rules}
-
 use Rattle.job_reader.proofs.elements.read_start.Goals as goal
 use Rattle.job_reader.proofs.elements.read_start.Lts as lts
 use Rattle.job_reader.proofs.elements.read_start.Reads as reads

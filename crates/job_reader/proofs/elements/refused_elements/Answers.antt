@@ -1,6 +1,5 @@
 -- `job_reader::elements::refused_elements` meets its contract. Assumes nothing.
 
-
 use Rattle.job_reader.proofs.elements.refused_elements.Goals as goal
 
 pub returns : goal.returns

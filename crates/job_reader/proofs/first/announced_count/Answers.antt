@@ -2,7 +2,6 @@
 use native.Mathlib.Omega.{arith}
 use Rattle.job.proofs.AnnouncedLaws.{announced_least}
 use borrow.Author.Tests.{le-leb, lt-leb}
-
 use Rattle.job_reader.proofs.first.announced_count.Goals as goal
 
 pub overflow_sub-result : goal.overflow_sub-result

@@ -1,6 +1,5 @@
 -- `job_reader::first::announced_form` meets its contract. Assumes nothing.
 use borrow.Author.Tests.{le-leb, lt-leb}
-
 use Rattle.job_reader.proofs.first.announced_form.Goals as goal
 
 pub returns-then-n-le4 : goal.returns-then-n-le4

@@ -1,6 +1,5 @@
 -- `job_reader::first::announces` meets its contract. Assumes nothing.
 
-
 use Rattle.job_reader.proofs.first.announces.Goals as goal
 
 pub returns : goal.returns

@@ -1,7 +1,6 @@
 -- `job_reader::first::read_first` meets its contract. Assumes nothing.
 use mathlib.Core.Path.{◌∙◌, sym}
 use Rattle.number.specs.Field.{field}
-
 use Rattle.job_reader.proofs.first.read_first.Goals as goal
 
 pub returns-in_default : goal.returns-in_default

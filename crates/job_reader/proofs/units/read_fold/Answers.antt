@@ -5,7 +5,6 @@ use mir.Val.{to_z, of_z}
 use Rattle.number.specs.Field.{signed_field}
 use Rattle.job.specs.Allowed.{fold_allowed}
 use borrow.Author.Rules.{rules}
-
 use Rattle.job_reader.proofs.units.read_fold.Goals as goal
 use Rattle.job_reader.proofs.units.read_fold.Lts as lts
 use Rattle.job_reader.proofs.units.read_fold.Reads as reads

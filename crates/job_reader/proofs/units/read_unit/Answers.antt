@@ -7,7 +7,6 @@ use Rattle.job_reader.specs.Answers.{beside}
 use Rattle.job_reader.proofs.PartLaws.{shown}
 use Rattle.job.specs.Empty.{empty_body}
 use borrow.Author.Rules.{rules}
-
 use Rattle.job_reader.proofs.units.read_unit.Goals as goal
 use Rattle.job_reader.proofs.units.read_unit.Lts as lts
 use Rattle.job_reader.proofs.units.read_unit.Reads as reads

@@ -10,7 +10,6 @@ use Rattle.job_reader.specs.Record.{read_units, read_vehicle}
 use Rattle.job_reader.specs.Answers.{beside}
 use Rattle.job_reader.proofs.ReadLaws.{field_allowed}
 use Rattle.job_reader.proofs.PartLaws.{shown}
-
 use Rattle.job_reader.proofs.units.read_vehicle.Goals as goal
 use Rattle.job_reader.proofs.units.read_vehicle.Lts as lts
 use Rattle.job_reader.proofs.units.read_vehicle.Reads as reads

@@ -4,7 +4,6 @@ use Rattle.number.specs.Field.{field}
 use Rattle.number.specs.Answers.{as_number}
 use Rattle.job.specs.Allowed.{old_overhang_allowed}
 use Rattle.job_reader.specs.Record.{read_widths}
-
 use Rattle.job_reader.proofs.units.read_widths.Goals as goal
 use Rattle.job_reader.proofs.units.read_widths.Lts as lts
 use Rattle.job_reader.proofs.units.read_widths.Reads as reads

@@ -1,6 +1,5 @@
 -- `job_reader::units::refused_unit` meets its contract. Assumes nothing.
 
-
 use Rattle.job_reader.proofs.units.refused_unit.Goals as goal
 
 pub returns : goal.returns

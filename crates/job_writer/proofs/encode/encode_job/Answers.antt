@@ -12,7 +12,6 @@ use Rattle.job_writer.specs.Write.{write_vehicle, write_start, write_path, write
 use Rattle.job_writer.specs.Encoding.{nothing}
 use Rattle.job_writer.proofs.AppendLaws.{join, first, then}
 use Rattle.job_writer.proofs.LengthLaws.{record_length_lem, elements_allowed}
-
 use Rattle.job_writer.proofs.encode.encode_job.Goals as goal
 use Rattle.job_writer.proofs.encode.encode_job.Goals.{Start}
 

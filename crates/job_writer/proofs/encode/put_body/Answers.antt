@@ -1,7 +1,6 @@
 -- `job_writer::encode::put_body` meets its contract. Assumes nothing.
 use mathlib.Core.Path.{sym}
 use Rattle.job_writer.proofs.AppendLaws.{append_none}
-
 use Rattle.job_writer.proofs.encode.put_body.Goals as goal
 
 pub returns-in_default : goal.returns-in_default

@@ -4,7 +4,6 @@ use Rattle.number.specs.Number.{write_number}
 use Rattle.number.specs.Signed.{write_signed}
 use Rattle.job.specs.Curves.{radius_of}
 use Rattle.job_writer.proofs.AppendLaws.{join, first, then}
-
 use Rattle.job_writer.proofs.encode.put_element.Goals as goal
 use Rattle.job_writer.proofs.encode.put_element.Goals.{After-radius_field}
 

@@ -6,7 +6,6 @@ use mathlib.Core.Path.{refl}
 use Rattle.job.specs.Empty.{empty_element}
 use Rattle.job_writer.specs.Write.{write_element}
 use Rattle.job_writer.proofs.AppendLaws.{run_room, run_next, run_end}
-
 use Rattle.job_writer.proofs.encode.put_elements.Goals as goal
 
 pub loop-i-init : goal.loop-i-init

@@ -2,7 +2,6 @@
 use mathlib.Core.Path.{◌≡◌}
 use lib.ListN.{length}
 use borrow.Author.Rules.{rules}
-
 use Rattle.job_writer.proofs.encode.put_number.Goals as goal
 
 pub write-next-requires : goal.write-next-requires

@@ -7,7 +7,6 @@ use Rattle.number.specs.Number.{write_number}
 use Rattle.job.specs.declared.Job.{Job}
 use Rattle.job_writer.specs.Write.{write_element}
 use Rattle.job_writer.proofs.AppendLaws.{join, first, then}
-
 use Rattle.job_writer.proofs.encode.put_path.Goals as goal
 
 abbrev elements : Job → List ℕ

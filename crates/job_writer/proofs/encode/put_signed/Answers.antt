@@ -2,7 +2,6 @@
 use mathlib.Core.Path.{◌≡◌, ◌∙◌, ap}
 use Rattle.number.specs.Signed.{field_of}
 use Rattle.number.proofs.SignedLaws.{kept}
-
 use Rattle.job_writer.proofs.encode.put_signed.Goals as goal
 use Rattle.job_writer.proofs.encode.put_signed.Goals.{After-field_of}
 

@@ -9,7 +9,6 @@ use Rattle.number.specs.Inner.{Room}
 use Rattle.job_writer.specs.Encoding.{appended}
 use Rattle.job_writer.proofs.AppendLaws.{join, first, then}
 use borrow.Author.Rules.{rules}
-
 use Rattle.job_writer.proofs.encode.put_start.Goals as goal
 use Rattle.job_writer.proofs.encode.put_start.Goals.{After-put_signed-a, After-put_signed-b, After-put_signed-d, After-struct_told-4-1}
 use Rattle.job_writer.proofs.encode.put_start.Lts as lts

@@ -2,7 +2,6 @@
 use mathlib.Core.List.{◌++◌}
 use Rattle.number.specs.Number.{write_number}
 use Rattle.job_writer.proofs.AppendLaws.{join, first, then}
-
 use Rattle.job_writer.proofs.encode.put_three.Goals as goal
 
 pub put_number-a-requires : goal.put_number-a-requires

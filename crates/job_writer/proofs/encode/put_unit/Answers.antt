@@ -10,7 +10,6 @@ use Rattle.number.specs.Number.{write_number}
 use Rattle.number.specs.Signed.{write_signed}
 use Rattle.job_writer.specs.Write.{write_body}
 use Rattle.job_writer.proofs.AppendLaws.{join, first, then}
-
 use Rattle.job_writer.proofs.encode.put_unit.Goals as goal
 use Rattle.job_writer.proofs.encode.put_unit.Goals.{After-put_number-a, After-put_signed-b}
 use Rattle.job_writer.proofs.encode.put_unit.Lts as lts

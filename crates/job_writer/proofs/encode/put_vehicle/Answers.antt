@@ -11,7 +11,6 @@ use Rattle.job_writer.specs.Encoding.{appended}
 use Rattle.job_writer.specs.Write.{write_unit, write_widths}
 use Rattle.job_writer.proofs.AppendLaws.{join, first, then}
 use borrow.Author.Rules.{rules}
-
 use Rattle.job_writer.proofs.encode.put_vehicle.Goals as goal
 use Rattle.job_writer.proofs.encode.put_vehicle.Goals.{After-put_number-a}
 

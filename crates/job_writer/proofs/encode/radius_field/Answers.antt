@@ -2,7 +2,6 @@
 use Prim.Native.Nat.{◌≤◌}
 use native.Mathlib.Omega.{arith}
 use Rattle.job_writer.proofs.CurveLaws.{radius_range, left_field}
-
 use Rattle.job_writer.proofs.encode.radius_field.Goals as goal
 use Rattle.job_writer.proofs.encode.radius_field.Goals.{In-Arc}
 

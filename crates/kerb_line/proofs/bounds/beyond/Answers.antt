@@ -1,7 +1,6 @@
 -- `kerb_line::bounds::beyond` meets its contract.
 use borrow.Author.Rules.{rules}
 use Rattle.kerb_line.specs.Inner.{beyond}
-
 use Rattle.kerb_line.proofs.bounds.beyond.Goals as goal
 
 pub returns : goal.returns

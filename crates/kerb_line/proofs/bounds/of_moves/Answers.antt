@@ -8,7 +8,6 @@ use Rattle.kerb_line.specs.declared.bounds.Bounds.{Bounds}
 use Rattle.kerb_line.specs.Kerb.{origin}
 use Rattle.kerb_line.specs.Inner.{widened, Enclosed}
 use Rattle.kerb_line.proofs.BoundsLaws.{enclosed_none, enclosed_next}
-
 use Rattle.kerb_line.proofs.bounds.of_moves.Goals as goal
 
 pub loop-p-init : goal.loop-p-init

@@ -2,7 +2,6 @@
 use mathlib.Core.Path.{◌≡◌}
 use borrow.Author.Rules.{rules}
 use Rattle.exact.proofs.Machine.{reread}
-
 use Rattle.kerb_line.proofs.bounds.smaller.Goals as goal
 use Rattle.kerb_line.proofs.bounds.smaller.Goals.{Start}
 

@@ -4,7 +4,6 @@ use borrow.Author.Rules.{rules}
 use lib.IntN.{ℤ}
 use Rattle.exact.proofs.Machine.{reread, reread_result}
 use Rattle.kerb_line.specs.Inner.{smaller, greater}
-
 use Rattle.kerb_line.proofs.bounds.widened.Goals as goal
 
 abbrev Exact : ℤ → Type 0

@@ -10,7 +10,6 @@ use Rattle.kerb_line.specs.Contact.{Segment}
 use Rattle.kerb_line.specs.Inner.{Lowest, move_touches, move_touches_one}
 use Rattle.kerb_line.proofs.KerbLaws.{lent_some, vertex_lent, on_map}
 use Rattle.kerb_line.proofs.AlongLaws.{of_point, of_line}
-
 use Rattle.kerb_line.proofs.moves.lowest.Goals as goal
 use Rattle.kerb_line.proofs.moves.lowest.Goals.{Start}
 

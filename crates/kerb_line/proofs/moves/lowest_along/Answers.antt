@@ -10,7 +10,6 @@ use Rattle.kerb_line.specs.Kerb.{KerbRuns, kerb_runs, vertex_at}
 use Rattle.kerb_line.specs.Inner.{Lowest, move_touches}
 use Rattle.kerb_line.proofs.KerbLaws.{lent_some, vertex_lent, on_map}
 use Rattle.kerb_line.proofs.AlongLaws.{beyond_lowest, one_more, all_done}
-
 use Rattle.kerb_line.proofs.moves.lowest_along.Goals as goal
 use Rattle.kerb_line.proofs.moves.lowest_along.Goals.{then-not-beyond, else-not-beyond}
 use Rattle.kerb_line.proofs.moves.lowest_along.Goals.{At-loop-i, Joined-not-beyond, Start}
@@ -61,7 +60,6 @@ lowest_below-best-requires c =
 pub loop-i-smaller : goal.loop-i-smaller
 loop-i-smaller c = omega (arith, c.loop-i-test.true)
 
-
 -- the lowest so far, after the segment from vertex i
 module _ (c : Joined-not-beyond) where
   abbrev l : At-loop-i
@@ -85,7 +83,7 @@ module _ (c : Joined-not-beyond) where
   after : At (vertex_at (given s) l.loop-i.i) (vertex_at (given s) (l.loop-i.i + 1)) c.if-not-beyond.best
   after =
       elim c.if-not-beyond.branch [
-        then-not-beyond w ↦ placed _ w.best-is w.lowest_below-best.ensures
+        | then-not-beyond w ↦ placed _ w.best-is w.lowest_below-best.ensures
         | else-not-beyond w ↦ placed _ w.best-is (beyond_lowest s.args.olds s.args.news _ _ _ s.args.count l.loop-i.best l.loop-i.invariant.1 l.of_moves-b.ensures (sym c.beyond.ensures ∙ w.if-not-beyond.false))
       ]
 

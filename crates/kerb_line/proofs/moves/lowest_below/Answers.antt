@@ -7,7 +7,6 @@ use borrow.Author.Rules.{rules}
 use borrow.Author.Count.{below_more}
 use Rattle.kerb_line.specs.Inner.{move_touches}
 use Rattle.kerb_line.proofs.LowestLaws.{none_lowest}
-
 use Rattle.kerb_line.proofs.moves.lowest_below.Goals as goal
 
 pub loop-p-init : goal.loop-p-init

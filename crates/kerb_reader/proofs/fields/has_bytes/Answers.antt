@@ -5,7 +5,6 @@ use native.Mathlib.Omega.{arith}
 use native.Mathlib.Decide.{dec_le}
 use borrow.Author.Tests.{le-leb, lt-leb}
 use lib.Dec.{leb}
-
 use Rattle.kerb_reader.proofs.fields.has_bytes.Goals as goal
 
 -- the test with what is left on one side, and on the other

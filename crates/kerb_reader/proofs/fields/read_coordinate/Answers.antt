@@ -8,7 +8,6 @@ use lib.Dec.{leb}
 use lib.ListN.{length}
 use Rattle.metres.specs.Answers.{as_metres}
 use Rattle.kerb_reader.proofs.FieldLaws.{coordinate_short, coordinate_none, coordinate_far, coordinate_read}
-
 use Rattle.kerb_reader.proofs.fields.read_coordinate.Goals as goal
 use Rattle.kerb_reader.proofs.fields.read_coordinate.Goals.{Start}
 use Rattle.kerb_reader.proofs.fields.read_coordinate.Lts as lts

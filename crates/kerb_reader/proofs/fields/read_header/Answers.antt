@@ -11,7 +11,6 @@ use Rattle.number.specs.Field.{within}
 use Rattle.metres.specs.Bytes.{little_endian}
 use Rattle.metres.proofs.ByteLaws.{AllBytes}
 use Rattle.kerb_reader.proofs.FieldLaws.{below_4, header_short, header_wrong, header_right}
-
 use Rattle.kerb_reader.proofs.fields.read_header.Goals as goal
 use Rattle.kerb_reader.proofs.fields.read_header.Goals.{Start}
 use Rattle.kerb_reader.proofs.fields.read_header.Lts as lts

@@ -1,6 +1,5 @@
 -- `kerb_reader::fields::read_vertex` meets its contract.
 use Rattle.kerb_reader.specs.Geometry.{read_vertex}
-
 use Rattle.kerb_reader.proofs.fields.read_vertex.Goals as goal
 
 pub returns-in_default : goal.returns-in_default

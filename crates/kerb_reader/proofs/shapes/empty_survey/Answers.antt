@@ -1,6 +1,5 @@
 -- `kerb_reader::shapes::empty_survey` meets its contract.
 use lib.Ieee.{of_bits}
-
 use Rattle.kerb_reader.proofs.shapes.empty_survey.Goals as goal
 
 pub returns : goal.returns

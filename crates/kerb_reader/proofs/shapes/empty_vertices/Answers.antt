@@ -2,7 +2,6 @@
 use mathlib.Core.Path.{refl}
 use lib.Ieee.{of_bits}
 use Rattle.kerb_reader.specs.Geometry.{no_vertices}
-
 use Rattle.kerb_reader.proofs.shapes.empty_vertices.Goals as goal
 
 pub returns : goal.returns

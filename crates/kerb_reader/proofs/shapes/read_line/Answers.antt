@@ -10,7 +10,6 @@ use Rattle.kerb_reader.specs.Answers.{beside}
 use Rattle.kerb_reader.proofs.PartLaws.{shown, inside}
 use Rattle.kerb_reader.proofs.FieldLaws.{in_use}
 use borrow.Author.Rules.{rules}
-
 use Rattle.kerb_reader.proofs.shapes.read_line.Goals as goal
 use Rattle.kerb_reader.proofs.shapes.read_line.Lts as lts
 use Rattle.kerb_reader.proofs.shapes.read_line.Reads as reads

@@ -1,6 +1,5 @@
 -- `kerb_reader::shapes::read_point` meets its contract.
 use Rattle.kerb_reader.specs.Geometry.{read_point}
-
 use Rattle.kerb_reader.proofs.shapes.read_point.Goals as goal
 
 pub returns-in_default : goal.returns-in_default

@@ -7,7 +7,6 @@ use Rattle.number.specs.Read.{Reader}
 use Rattle.number.specs.Answers.{as_number}
 use Rattle.kerb_reader.specs.Geometry.{header, read_survey}
 use Rattle.kerb_reader.proofs.FieldLaws.{mark_is}
-
 use Rattle.kerb_reader.proofs.shapes.read_survey.Goals as goal
 use Rattle.kerb_reader.proofs.shapes.read_survey.Lts as lts
 use Rattle.kerb_reader.proofs.shapes.read_survey.Reads as reads

@@ -8,7 +8,6 @@ use Rattle.kerb_reader.specs.Geometry.{vertices_of}
 use Rattle.kerb_reader.specs.Ticks.{room_in, east_of, north_of}
 use lib.ListN.{length}
 use Rattle.kerb_reader.proofs.Limits.{ticks_are, count_is, both_room, answered, no_room}
-
 use Rattle.kerb_reader.proofs.writing.write_survey.Goals as goal
 use Rattle.kerb_reader.proofs.writing.write_survey.Goals.{After-vertex_count-count, Start}
 

@@ -12,7 +12,6 @@ use Rattle.plane.specs.Run.{Stored}
 use Rattle.metres.specs.Tick.{ticks_most, tick_of}
 use Rattle.metres.proofs.Ticks.{tick_bound}
 use Rattle.kerb_reader.proofs.WriteLaws.{stored_tick}
-
 use Rattle.kerb_reader.proofs.writing.write_vertex.Goals as goal
 use Rattle.kerb_reader.proofs.writing.write_vertex.Goals.{After-ticks_of-t, Start}
 

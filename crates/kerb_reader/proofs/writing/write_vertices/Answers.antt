@@ -14,7 +14,6 @@ use Rattle.kerb_reader.specs.Geometry.{no_vertex}
 use Rattle.kerb_reader.specs.Ticks.{east_of, north_of}
 use Rattle.kerb_reader.proofs.PartLaws.{inside}
 use Rattle.kerb_reader.proofs.WriteLaws.{Writing, writing_start, writing_next, written_east, written_north}
-
 use Rattle.kerb_reader.proofs.writing.write_vertices.Goals as goal
 use Rattle.kerb_reader.proofs.writing.write_vertices.Goals.{After-ys-1, In-loop-i, Start}
 

@@ -1,6 +1,5 @@
 -- `points::corners::body_of` meets its contract.
 use Rattle.points.proofs.CornerLaws.{short_body, long_body}
-
 use Rattle.points.proofs.corners.body_of.Goals as goal
 
 pub returns-in-Short : goal.returns-in-Short

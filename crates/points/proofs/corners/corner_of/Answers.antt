@@ -2,7 +2,6 @@
 use mathlib.Core.Path.{sym, ◌∙◌, ap}
 use Rattle.points.specs.Corners.{front_corner, rear_corner}
 use Rattle.points.proofs.CornerLaws.{at_front, at_rear}
-
 use Rattle.points.proofs.corners.corner_of.Goals as goal
 
 pub returns-then-is_front : goal.returns-then-is_front

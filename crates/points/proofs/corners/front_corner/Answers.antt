@@ -3,7 +3,6 @@ use mathlib.Core.Path.{◌≡◌, ◌∙◌}
 use borrow.Author.Tests.{eq-eqb, ne_eqb}
 use Rattle.exact.proofs.Machine.{reread, reread_result}
 use Rattle.points.proofs.CornerLaws.{own as ownCorner, front_first, front_later, front_long, own_corner}
-
 use Rattle.points.proofs.corners.front_corner.Goals as goal
 use Rattle.points.proofs.corners.front_corner.Goals.{After-wide-2}
 

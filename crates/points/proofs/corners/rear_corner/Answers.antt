@@ -8,7 +8,6 @@ use Rattle.exact.proofs.Polynomial.{var, lit, ◌⊖◌}
 use Rattle.exact.proofs.Machine.{reread, reread_result, Bounded, none, ◌∷ᵇ◌, fits, held}
 use Rattle.points.proofs.CornerLaws.{rear_own}
 use borrow.Author.Rules.{rules}
-
 use Rattle.points.proofs.corners.rear_corner.Goals as goal
 use Rattle.points.proofs.corners.rear_corner.Goals.{After-wide}
 

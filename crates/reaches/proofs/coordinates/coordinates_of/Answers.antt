@@ -8,7 +8,6 @@ use Rattle.exact.proofs.Machine.{reread}
 use Rattle.marks.specs.Count.{point_capacity}
 use Rattle.walk.specs.Rig.{zero_vector}
 use Rattle.reaches.proofs.CoordinateLaws.{fill_start, fill_next, fill_end}
-
 use Rattle.reaches.proofs.coordinates.coordinates_of.Goals as goal
 
 pub loop-p-init : goal.loop-p-init

@@ -6,7 +6,6 @@ use lib.IntN.{pos}
 use lib.ListN.{get_or}
 use Rattle.exact.proofs.Machine.{reread}
 use Rattle.reaches.proofs.CoordinateLaws.{point_of_lem}
-
 use Rattle.reaches.proofs.coordinates.point_at.Goals as goal
 
 pub returns : goal.returns

@@ -2,7 +2,6 @@
 use Rattle.exact.proofs.Polynomial.{var, ◌⊖◌, ◌⊗◌}
 use Rattle.exact.proofs.Machine.{Bounded, fits, held}
 use Rattle.reaches.proofs.ReachSizes.{sizes, values, measured, AHEAD}
-
 use Rattle.reaches.proofs.crossing.ahead_of.Goals as goal
 use Rattle.reaches.proofs.crossing.ahead_of.Goals.{After-struct_told-6-1}
 

@@ -10,7 +10,6 @@ use Rattle.reaches.specs.Coordinates.{points_of}
 use Rattle.reaches.specs.Crossing.{crossed_by}
 use Rattle.reaches.specs.Inner.{Movable}
 use Rattle.reaches.proofs.CrossingLaws.{crossed_next, crossed_end}
-
 use Rattle.reaches.proofs.crossing.crossed_by_all.Goals as goal
 use Rattle.reaches.proofs.crossing.crossed_by_all.Goals.{Start}
 

@@ -4,7 +4,6 @@ use borrow.Author.Rules.{rules}
 use Rattle.exact.proofs.Machine.{reread32}
 use Rattle.reaches.specs.Crossing.{reach_of, smaller, greater}
 use Rattle.reaches.proofs.CrossingLaws.{crossed, not_crossed}
-
 use Rattle.reaches.proofs.crossing.crossed_cell.Goals as goal
 use Rattle.reaches.proofs.crossing.crossed_cell.Goals.{After-reach-b, After-with_bit, Start}
 use Rattle.reaches.proofs.crossing.crossed_cell.Lts as lts

@@ -6,7 +6,6 @@ use lib.Signed.{le_z}
 use Rattle.exact.proofs.Machine.{reread}
 use Rattle.reaches.specs.Crossing.{ahead_of}
 use Rattle.reaches.proofs.CrossingLaws.{crosses_from_below, past_already}
-
 use Rattle.reaches.proofs.crossing.crosses_station.Goals as goal
 use Rattle.reaches.proofs.crossing.crosses_station.Goals.{After-ahead_of, After-ahead_of-then-ahead_of-lt0}
 

@@ -5,7 +5,6 @@ use Rattle.exact.proofs.Machine.{reread}
 use Rattle.reaches.specs.Far.{far_off}
 use Rattle.reaches.proofs.FarLaws.{far_pair}
 use borrow.Author.Rules.{rules}
-
 use Rattle.reaches.proofs.crossing.either_crosses.Goals as goal
 use Rattle.reaches.proofs.crossing.either_crosses.Goals.{Start}
 

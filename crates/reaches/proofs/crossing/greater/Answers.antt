@@ -2,7 +2,6 @@
 use mathlib.Core.Path.{◌≡◌}
 use borrow.Author.Rules.{rules}
 use Rattle.exact.proofs.Machine.{reread32}
-
 use Rattle.reaches.proofs.crossing.greater.Goals as goal
 use Rattle.reaches.proofs.crossing.greater.Goals.{Start}
 

@@ -2,7 +2,6 @@
 use mathlib.Core.Path.{◌≡◌}
 use borrow.Author.Rules.{rules}
 use Rattle.exact.proofs.Machine.{reread}
-
 use Rattle.reaches.proofs.crossing.pair_crosses.Goals as goal
 
 pub either_crosses-requires : goal.either_crosses-requires

@@ -11,7 +11,6 @@ use Rattle.exact.proofs.Machine.{Bounded, reread, fits, held}
 use Rattle.plane.specs.Length.{heading_length}
 use Rattle.reaches.specs.Crossing.{reach_of}
 use Rattle.reaches.proofs.ReachSizes.{sizes, values, measured, ASIDE, aside, length_divides, reach_inside, fits32}
-
 use Rattle.reaches.proofs.crossing.reach.Goals as goal
 use Rattle.reaches.proofs.crossing.reach.Goals.{After-nearest, After-struct_told-6-1, Start}
 

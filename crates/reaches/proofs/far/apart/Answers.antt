@@ -6,7 +6,6 @@ use Rattle.exact.specs.Size.{Within}
 use Rattle.exact.proofs.Polynomial.{var, ◌⊖◌, ◌⊕◌}
 use Rattle.exact.proofs.Sizes.{within_sub}
 use Rattle.exact.proofs.Machine.{Bounded, none, ◌∷ᵇ◌, fits, held, held_within}
-
 use Rattle.reaches.proofs.far.apart.Goals as goal
 use Rattle.reaches.proofs.far.apart.Goals.{After-size-2, Start}
 

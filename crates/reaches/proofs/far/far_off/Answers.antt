@@ -9,7 +9,6 @@ use Rattle.exact.proofs.Polynomial.{lit, var, ◌⊖◌, ◌⊗◌}
 use Rattle.exact.proofs.Machine.{Bounded, none, ◌∷ᵇ◌, reread, fits, held}
 use Rattle.reaches.specs.Crossing.{ahead_of}
 use Rattle.reaches.specs.Far.{far_off}
-
 use Rattle.reaches.proofs.far.far_off.Goals as goal
 use Rattle.reaches.proofs.far.far_off.Goals.{After-ahead_of-ahead, Start}
 

@@ -11,7 +11,6 @@ use Rattle.reaches.specs.Crossing.{greater}
 use Rattle.reaches.specs.Far.{PairSpread}
 use Rattle.reaches.proofs.FarLaws.{apart_sized}
 use Rattle.reaches.proofs.PairLaws.{no_pairs, pairs_next}
-
 use Rattle.reaches.proofs.far.pair_spread.Goals as goal
 use Rattle.reaches.proofs.far.pair_spread.Goals.{After-apart, After-apart-in-loop-k, After-apart-in-loop-k-2, After-greater, After-greater-most, After-greater-right, At-loop-k, In-loop-k, Start}
 

@@ -10,7 +10,6 @@ use lib.Signed.{lt_z}
 use Rattle.exact.proofs.Order.{≤-pos, lt_z_true-≤}
 use Rattle.exact.proofs.Polynomial.{lit, var, ◌⊖◌}
 use Rattle.exact.proofs.Machine.{Bounded, none, ◌∷ᵇ◌, reread, fits, held}
-
 use Rattle.reaches.proofs.far.size.Goals as goal
 use Rattle.reaches.proofs.far.size.Goals.{Start}
 

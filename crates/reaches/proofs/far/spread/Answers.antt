@@ -10,7 +10,6 @@ use Rattle.exact.proofs.Machine.{reread}
 use Rattle.reaches.specs.Crossing.{greater}
 use Rattle.reaches.specs.Far.{Spread}
 use Rattle.reaches.proofs.FarLaws.{apart_sized, upto_none, upto_next}
-
 use Rattle.reaches.proofs.far.spread.Goals as goal
 use Rattle.reaches.proofs.far.spread.Goals.{After-greater, After-greater-most, At-loop-p, Start}
 

@@ -1,7 +1,6 @@
 -- `trial_tools::places::is_on_map` meets its contract.
 use mathlib.Core.Path.{sym, ◌∙◌}
 use Rattle.walk.proofs.PathTests.{sound_station}
-
 use Rattle.trial_tools.proofs.places.is_on_map.Goals as goal
 
 pub returns : goal.returns

@@ -14,7 +14,6 @@ use Rattle.points.specs.Requires.{RigAt}
 use Rattle.stations.proofs.RigLaws.{sound_keeping}
 use Rattle.stations.proofs.Entering.{rig_at}
 use borrow.Author.Rules.{rules}
-
 use Rattle.trial_tools.proofs.places.points_at.Goals as goal
 use Rattle.trial_tools.proofs.places.points_at.Goals.{Start, Then-path_lent, Then-record_sound}
 

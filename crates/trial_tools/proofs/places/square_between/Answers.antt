@@ -4,7 +4,6 @@ use Rattle.plane.specs.declared.Vec2.{Vec2}
 use Rattle.plane.specs.Vector.{BothModerate}
 use Rattle.points.specs.Requires.{PlaceSized}
 use Rattle.trial_tools.proofs.PlaceLaws.{moderate, gap_moderate}
-
 use Rattle.trial_tools.proofs.places.square_between.Goals as goal
 use Rattle.trial_tools.proofs.places.square_between.Goals.{Start, Then-is_on_map-2}
 

@@ -1,6 +1,5 @@
 -- `trial_tools::reading::read_signed` is safe and ends.
 use Rattle.trial_tools.proofs.ReadingLaws.{short_fits}
-
 use Rattle.trial_tools.proofs.reading.read_signed.Goals as goal
 
 pub overflow_cast-result : goal.overflow_cast-result

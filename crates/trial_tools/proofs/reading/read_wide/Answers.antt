@@ -4,7 +4,6 @@ use mir.ValLaws.{to_z_pos}
 use native.Mathlib.Omega.{arith}
 use Prim.Native.Nat.{◌<◌, ◌-◌, ◌^◌}
 use Rattle.number.proofs.SignedLaws.{less_pos}
-
 use Rattle.trial_tools.proofs.reading.read_wide.Goals as goal
 
 pub overflow_sub-result-then-size-le9223372036854775808 : goal.overflow_sub-result-then-size-le9223372036854775808

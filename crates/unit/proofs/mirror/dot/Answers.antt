@@ -7,7 +7,6 @@ use Rattle.exact.proofs.Polynomial.{var, ◌⊕◌}
 use Rattle.exact.proofs.Machine.{Bounded, none, ◌∷ᵇ◌, fits, held}
 use Rattle.unit.specs.Products.{short_most}
 use Rattle.unit.proofs.ProductLaws.{times_exact, times_within}
-
 use Rattle.unit.proofs.mirror.dot.Goals as goal
 use Rattle.unit.proofs.mirror.dot.Goals.{After-short_times-2}
 

@@ -4,7 +4,6 @@ use Prim.Native.Nat.{ℕ, ◌+◌, ◌*◌, ◌/◌, ◌%◌, ◌^◌, ◌<◌}
 use native.Mathlib.Nat as NatL
 use native.Mathlib.Omega.{arith}
 use Rattle.unit.proofs.ProductLaws.{parts}
-
 use Rattle.unit.proofs.mirror.long_product.Goals as goal
 use Rattle.unit.proofs.mirror.long_product.Goals.{After-product-2}
 

@@ -14,7 +14,6 @@ use Rattle.plane.specs.Vector.{dot, norm_sq, nearest_v}
 use Rattle.unit.specs.Turn.{mirror_line}
 use Rattle.unit.specs.Products.{short_most, ShortVector, Dotted, Imaged}
 use Rattle.unit.proofs.ProductLaws.{dot_most, dot_within}
-
 use Rattle.unit.proofs.mirror.mirrored_vector.Goals as goal
 use Rattle.unit.proofs.mirror.mirrored_vector.Goals.{After-dot-md, After-dot-mm, After-image_coordinate-wx, After-image_coordinate-wy}
 use Rattle.unit.proofs.mirror.mirrored_vector.Lts as lts

@@ -6,7 +6,6 @@ use Rattle.exact.proofs.Machine.{reread}
 use Rattle.exact.proofs.Sizes.{within_more}
 use Rattle.unit.specs.Products.{short_most}
 use Rattle.unit.proofs.ProductLaws.{kept, by_sizes, times_held}
-
 use Rattle.unit.proofs.mirror.short_times.Goals as goal
 use Rattle.unit.proofs.mirror.short_times.Goals.{Start}
 

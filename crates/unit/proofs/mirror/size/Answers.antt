@@ -7,7 +7,6 @@ use Rattle.exact.proofs.Polynomial.{var, lit, ◌⊖◌}
 use Rattle.exact.proofs.Machine.{Bounded, none, ◌∷ᵇ◌, reread, fits, held}
 use Rattle.unit.specs.Products.{long_most}
 use Rattle.unit.proofs.ProductLaws.{negated, natural, kept}
-
 use Rattle.unit.proofs.mirror.size.Goals as goal
 use Rattle.unit.proofs.mirror.size.Goals.{Else-z-lt0, Start, Then-z-lt0}
 

@@ -7,7 +7,6 @@ use mir.Val.{to_z}
 use mir.Facts.{to_z-of_z, to_z_pos}
 use Rattle.exact.proofs.Machine.{reread}
 use Rattle.unit.proofs.ProductLaws.{same_signs, other_signs, opposite_fits}
-
 use Rattle.unit.proofs.mirror.with_sign.Goals as goal
 use Rattle.unit.proofs.mirror.with_sign.Goals.{Start}
 

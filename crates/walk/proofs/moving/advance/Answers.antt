@@ -1,6 +1,5 @@
 -- `walk::moving::advance` meets its contract.
 use Rattle.walk.proofs.MovingLaws.{all_turned, one_stopped}
-
 use Rattle.walk.proofs.moving.advance.Goals as goal
 
 pub turn_units-t-requires : goal.turn_units-t-requires

@@ -1,6 +1,5 @@
 -- `walk::moving::start` meets its contract.
 
-
 use Rattle.walk.proofs.moving.start.Goals as goal
 
 pub returns : goal.returns

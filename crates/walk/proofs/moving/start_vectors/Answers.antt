@@ -13,7 +13,6 @@ use Rattle.job.proofs.Arrays.{unmapped}
 use Rattle.walk.specs.Units.{wheelbase_of}
 use Rattle.walk.specs.Rig.{start_vectors}
 use Rattle.walk.proofs.MovingLaws.{placed_next, placed_end}
-
 use Rattle.walk.proofs.moving.start_vectors.Goals as goal
 use Rattle.walk.proofs.moving.start_vectors.Goals.{After-wide, Start}
 

@@ -5,7 +5,6 @@ use native.Mathlib.Omega.{arith}
 use native.Mathlib.Numerals.{add-one}
 use borrow.Author.Tests.{le-leb}
 use lib.Dec.{leb, leb-suc-suc}
-
 use Rattle.walk.proofs.tests.at_last.Goals as goal
 
 pub returns-then-asked-eq0 : goal.returns-then-asked-eq0

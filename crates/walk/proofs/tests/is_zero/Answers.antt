@@ -7,7 +7,6 @@ use lib.IntN.{ℤ, nat_abs}
 use Rattle.exact.proofs.Machine.{reread}
 use Rattle.number.specs.Field.{size_at_most}
 use Rattle.walk.proofs.SizeTests.{none_size}
-
 use Rattle.walk.proofs.tests.is_zero.Goals as goal
 
 -- the test of a coordinate

@@ -7,7 +7,6 @@ use Rattle.path.specs.Laying.{PathRuns, path_runs}
 use Rattle.walk.specs.Drawn.{station_at}
 use Rattle.walk.specs.Tests.{station_sound, path_sound}
 use Rattle.walk.proofs.PathTests.{path_none, path_next, path_unsound, station_lent}
-
 use Rattle.walk.proofs.tests.path_sound.Goals as goal
 use Rattle.walk.proofs.tests.path_sound.Goals.{After-station_sound, Start}
 

@@ -2,7 +2,6 @@
 use mathlib.Core.Path.{◌≡◌, sym, ◌∙◌}
 use mathlib.Core.Bool.{true}
 use Rattle.walk.specs.Tests.{vehicle_sound, record_sound}
-
 use Rattle.walk.proofs.tests.record_sound.Goals as goal
 use Rattle.walk.proofs.tests.record_sound.Goals.{Else-not-vehicle_sound}
 

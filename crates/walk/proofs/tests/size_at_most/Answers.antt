@@ -11,7 +11,6 @@ use Rattle.exact.specs.Size.{Within}
 use Rattle.exact.proofs.Sizes.{within_sub, fits64}
 use Rattle.exact.proofs.Machine.{reread}
 use Rattle.walk.proofs.SizeTests.{size_orders}
-
 use Rattle.walk.proofs.tests.size_at_most.Goals as goal
 use Rattle.walk.proofs.tests.size_at_most.Goals.{Start}
 

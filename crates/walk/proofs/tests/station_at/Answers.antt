@@ -7,7 +7,6 @@ use mir.Syntax.{w32, w64}
 use mir.Val.{SFits, to_z, of_z}
 use mir.Facts.{to_z-of_z}
 use Rattle.job.proofs.Wide.{wide, wide_fits}
-
 use Rattle.walk.proofs.tests.station_at.Goals as goal
 
 abbrev entry : List ℤ → ℕ → ℤ

@@ -3,7 +3,6 @@ use mathlib.Core.Path.{◌≡◌}
 use borrow.Author.Rules.{rules}
 use Rattle.exact.proofs.Machine.{reread}
 use Rattle.walk.specs.Tests.{station_sound}
-
 use Rattle.walk.proofs.tests.station_sound.Goals as goal
 
 pub returns : goal.returns

@@ -17,7 +17,6 @@ use Rattle.exact.proofs.Machine.{reread}
 use Rattle.walk.specs.Tests.{vector_sound, units_in_use}
 use Rattle.walk.proofs.VehicleTests.{units_counted, unit_ready_at}
 use Rattle.walk.proofs.VectorTests.{vector_used, vector_unused}
-
 use Rattle.walk.proofs.tests.vector_sound.Goals as goal
 use Rattle.walk.proofs.tests.vector_sound.Goals.{After-wide, Start, Then-k-v}
 

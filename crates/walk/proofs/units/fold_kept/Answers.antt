@@ -7,7 +7,6 @@ use mir.Facts.{to_z-of_z}
 use Rattle.exact.proofs.Machine.{reread}
 use Rattle.walk.specs.Units.{wheelbase_of}
 use Rattle.walk.proofs.DrawLaws.{coupled}
-
 use Rattle.walk.proofs.units.fold_kept.Goals as goal
 use Rattle.walk.proofs.units.fold_kept.Goals.{After-wide-ld, Start}
 

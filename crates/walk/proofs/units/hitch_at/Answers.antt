@@ -9,7 +9,6 @@ use Rattle.plane.specs.Vector.{plus, BothModerate}
 use Rattle.unit.specs.Coupling.{hitch_offset}
 use Rattle.walk.specs.Units.{wheelbase_of}
 use Rattle.walk.proofs.DrawLaws.{placed_moderate, sized_moderate, vector_sized, hitched, offset_sized, rear_moderate}
-
 use Rattle.walk.proofs.units.hitch_at.Goals as goal
 use Rattle.walk.proofs.units.hitch_at.Goals.{After-hitch_offset, After-minus-rear, Start}
 

@@ -10,7 +10,6 @@ use Rattle.unit.specs.Turn.{turned_by, too_far, Wheelbase, Turnable}
 use Rattle.walk.specs.Units.{wheelbase_of, fold_kept, behind}
 use Rattle.walk.specs.Inner.{next_turn, FoldReady}
 use Rattle.walk.proofs.DrawLaws.{placed_moderate, turnable, drawn_again}
-
 use Rattle.walk.proofs.units.turn_next.Goals as goal
 use Rattle.walk.proofs.units.turn_next.Goals.{After-fold_kept, After-minus-f, After-moves_too_far, After-turned-t, Else-moves_too_far, Start}
 

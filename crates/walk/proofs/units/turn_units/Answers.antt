@@ -16,7 +16,6 @@ use Rattle.walk.specs.Units.{hitch_at, none, turned, turn_units}
 use Rattle.walk.specs.Rig.{zero_vector}
 use Rattle.walk.specs.Inner.{next_turn, ahead_if, units_turned, TurnReady, HitchReady}
 use Rattle.walk.proofs.UnitsLaws.{UnitsLeft, units_start, turn_ready, stopped_here, hitch_from, hitch_to, units_next, units_done}
-
 use Rattle.walk.proofs.units.turn_units.Goals as goal
 use Rattle.walk.proofs.units.turn_units.Goals.{After-turn_next-t, In-Turned, In-loop-i, Start}
 
