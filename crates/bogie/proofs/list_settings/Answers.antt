@@ -25,7 +25,7 @@ module _ (s : Start) where
   runs = reach_runs s.args.left.now s.args.right.now s.args.marks.now
 
 abbrev start : After-refusal_of-refusal → Start
-start c = c.before.before.before.before.before.before.before.before.before
+start c = c.before.before
 
 -- laid
 module _ (c : After-lay-laid) where
@@ -39,7 +39,7 @@ module _ (c : After-lay-laid) where
   none = sym passed.refusal_of-refusal.ensures ∙ passed.if-refusal-ne0.false
 
   abbrev laid : PathRuns
-  laid = path_runs c.lay-laid.new.1.0 c.lay-laid.new.1.1.0 c.lay-laid.new.1.1.1.0 c.lay-laid.new.1.1.1.1.0
+  laid = path_runs c.lay-laid.new.xs c.lay-laid.new.ys c.lay-laid.new.gxs c.lay-laid.new.gys
 
   answered : (a : Laid) → c.lay-laid.result ≡ a → LayEnsures (j from) (path from) a laid
   answered a e = subst (λ (x : Laid). LayEnsures (j from) (path from) x laid) e c.lay-laid.ensures
@@ -52,22 +52,19 @@ returns-then-refusal-ne0 c = let s = start c.before in refused_list (j s) (rail 
 
 pub walk_settings-requires : goal.walk_settings-requires
 walk_settings-requires c =
-    let k = c.before.before.before.before.before.before in
-    let l = laying k.before.before in
+    let l = laying c.before.before.before.before in
     let s = from l in
-    laid_walkable (j s) (rail s) (path s) (runs s) (none l) _ (laid l) (answered l _ k.laid.given.1)
+    laid_walkable (j s) (rail s) (path s) (runs s) (none l) _ (laid l) (answered l _ c.in-Stations.is)
 
 pub returns-in-Stations : goal.returns-in-Stations
 returns-in-Stations c =
     let w = c.before.before.before.before.before in
-    let k = w.before.before.before.before.before.before.before in
-    let l = laying k.before.before in
+    let l = laying w.before.before.before.before.before in
     let s = from l in
-    walked_list (j s) (rail s) (path s) (runs s) (none l) _ (laid l) (answered l _ k.laid.given.1) _ _ w.walk_settings.ensures
+    walked_list (j s) (rail s) (path s) (runs s) (none l) _ (laid l) (answered l _ c.in-Stations.is) _ _ w.walk_settings.ensures
 
 pub returns-in-Refused : goal.returns-in-Refused
 returns-in-Refused c =
-    let k = c in
-    let l = laying k.before in
+    let l = laying c.before in
     let s = from l in
-    absurd (not_refused (j s) (rail s) (path s) (runs s) (none l) _ (laid l) (answered l _ k.in-Refused.is))
+    absurd (not_refused (j s) (rail s) (path s) (runs s) (none l) _ (laid l) (answered l _ c.in-Refused.is))

@@ -94,10 +94,10 @@ lengths : (c : After-loop-i) → SameLengths (runs c.before) (first c.before)
 lengths c = let l = c.before in runs_lengths (asked l) (path l) (vehicle l) (rail l) (first l) l.loop-i.i (runs l) l.loop-i.invariant.1
 
 pub overflow_add-i : goal.overflow_add-i
-overflow_add-i c = let k = turn c.before in record { fits = omega (arith, k.loop-i-test.taken, (start k.before).ranges.number.fits) }
+overflow_add-i c = let k = turn c.before in record { fits = omega (arith, k.loop-i-test.true, (start k.before).ranges.number.fits) }
 
 pub loop-i-smaller : goal.loop-i-smaller
-loop-i-smaller c = let k = turn c.before in omega (arith, k.loop-i-test.taken)
+loop-i-smaller c = let k = turn c.before in omega (arith, k.loop-i-test.true)
 
 pub loop-i-preserved : goal.loop-i-preserved
 loop-i-preserved c =
@@ -105,7 +105,7 @@ loop-i-preserved c =
     let l = k.before in
     let s = was_set c.before in
     let o = was_run c.before in (
-      omega (arith, k.loop-i-test.taken),
+      omega (arith, k.loop-i-test.true),
       next_runs (asked l) (path l) (vehicle l) (rail l) (first l) l.loop-i.i (runs l) l.loop-i.invariant.1 _ s _ _ o,
       next_listed (asked l) (path l) (vehicle l) (rail l) (first l) l.loop-i.i (runs l) l.loop-i.invariant.1 _ s _ _ o _ _ l.loop-i.invariant.2 c.enter_run-listed.ensures,
     )

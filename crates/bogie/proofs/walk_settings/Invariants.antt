@@ -12,8 +12,8 @@ use Rattle.bogie.proofs.walk_settings.Given as goal
 abbrev pub invariant-loop-i : goal.invariant-loop-i
 invariant-loop-i l =
     (l.i ≤ l.number)
-    × (reach_runs l.left l.right l.marks ≡ runs_after l.asked (path_runs l.xs l.ys l.gxs l.gys) l.v (record { l.lowest = l.lowest; l.pitch = l.pitch; l.number = l.number }) (reach_runs l.initial.left l.initial.right l.initial.marks) l.i)
-    × (l.listed ≡ listed_of (ranked (fitting (over_at l.asked (path_runs l.xs l.ys l.gxs l.gys) l.v (reach_runs l.initial.left l.initial.right l.initial.marks)) (setting_at (record { l.lowest = l.lowest; l.pitch = l.pitch; l.number = l.number })) l.i)))
+    × (reach_runs l.left l.right l.marks ≡ runs_after l.asked (path_runs l.xs l.ys l.gxs l.gys) l.v (record { lowest = l.lowest; pitch = l.pitch; number = l.number }) (reach_runs l.initial.left l.initial.right l.initial.marks) l.i)
+    × (l.listed ≡ listed_of (ranked (fitting (over_at l.asked (path_runs l.xs l.ys l.gxs l.gys) l.v (reach_runs l.initial.left l.initial.right l.initial.marks)) (setting_at (record { lowest = l.lowest; pitch = l.pitch; number = l.number })) l.i)))
 
 abbrev pub decreases-loop-i : goal.decreases-loop-i
 decreases-loop-i l =

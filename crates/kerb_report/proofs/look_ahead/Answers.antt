@@ -41,13 +41,13 @@ module _ (s : Start) where
   n = s.args.n
 
   abbrev kerb : KerbRuns
-  kerb = kerb_runs s.args.kerb-xs.now s.args.kerb-ys.now
+  kerb = kerb_runs s.args.kerb_xs.now s.args.kerb_ys.now
 
   first_places : length s.args.w.vehicle.units ≡ 4
   first_places = search (rules, unmapped)
 
 pub point_count-count-requires : goal.point_count-count-requires
-point_count-count-requires c = record { most = (units_counted c.args.w.vehicle (sound_record (asked c) (view c.args.w) c.requires.rig).vehicle).1 }
+point_count-count-requires c = record { most = (units_counted c.args.w.vehicle (sound_record (asked c.before) (view c.args.w) c.requires.rig).vehicle).1 }
 
 pub points_here-olds-requires : goal.points_here-olds-requires
 points_here-olds-requires c = let s = c.before.before in on_path (asked s) (path s) (n s) (kerb s) s.args.w s.requires (first_places s)

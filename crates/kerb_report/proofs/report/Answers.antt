@@ -27,7 +27,7 @@ module _ (s : Start) where
   n = s.args.n
 
   abbrev kerb : KerbRuns
-  kerb = kerb_runs s.args.kerb-xs.now s.args.kerb-ys.now
+  kerb = kerb_runs s.args.kerb_xs.now s.args.kerb_ys.now
 
 pub returns-then-not-path_lent : goal.returns-then-not-path_lent
 returns-then-not-path_lent c =

@@ -37,5 +37,5 @@ pub returns : goal.returns
 returns c = let w = c.before in
     let a = w.before.before.before in
     let s = a.before in
-    let kerb : KerbRuns = kerb_runs s.args.kerb-xs.now s.args.kerb-ys.now in
+    let kerb : KerbRuns = kerb_runs s.args.kerb_xs.now s.args.kerb_ys.now in
     subst (λ (d : Drawn). ReportEnsures d s.args.asked (path s) s.args.n kerb c.report.result) (w.start-w.ensures ∙ ap (λ (z : Station). drawn_start s.args.j.vehicle z.heading) a.station_at-start.ensures) c.report.ensures

@@ -14,7 +14,7 @@ module _ (c : After-lay-laid) where
   start = c.before.before.before.before.before
 
   abbrev laid : PathRuns
-  laid = path_runs c.lay-laid.new.1.0 c.lay-laid.new.1.1.0 c.lay-laid.new.1.1.1.0 c.lay-laid.new.1.1.1.1.0
+  laid = path_runs c.lay-laid.new.xs c.lay-laid.new.ys c.lay-laid.new.gxs c.lay-laid.new.gys
 
   answered : (a : Laid) → c.lay-laid.result ≡ a → LayEnsures start.args.j empty_path a laid
   unfolding empty_path

@@ -24,8 +24,8 @@ unfolding no_ticks
 returns-in-Vertices c = let k = c.before.before.before.before in
     let r = k.before.before.before in
     let s = start r in
-    let xs = r.read_kerb-kerb.new.1.0 in
-    let ys = r.read_kerb-kerb.new.1.1.0 in
+    let xs = r.read_kerb-kerb.new.xs in
+    let ys = r.read_kerb-kerb.new.ys in
     read_told s.args.j s.requires.judged s.args.geometry.now _ xs ys _ (subst (λ (x : KerbRead). KerbEnsures s.args.geometry.now no_ticks no_ticks x xs ys) k.in-Vertices.is r.read_kerb-kerb.ensures) c.report_job.ensures
 
 pub returns-in-RefusedAt : goal.returns-in-RefusedAt

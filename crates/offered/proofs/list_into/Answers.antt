@@ -32,10 +32,9 @@ returns-in-Accepted c =
     let o = c.before.before.before.before.before.before.before.before.before in
     let told = o.before.before.before.before.before.before.before.before.before in
     let r = told.before in
-    let q = o.list_settings-listed.new.1.1.1.1 in
-    let y = q.1.1.1.1 in
-    let p' = path_runs q.0 q.1.0 q.1.1.0 q.1.1.1.0 in
-    let r' = reach_runs y.0 y.1.0 y.1.1.0 in
+    let q = o.list_settings-listed.new in
+    let p' = path_runs q.xs q.ys q.gxs q.gys in
+    let r' = reach_runs q.left q.right q.marks in
     accepted_offers (start r).args.bytes.now r.read_job-read.result r.read_job-read.ensures (rail r) (path r) (reaches r) told.in-Accepted.is o.list_settings-listed.result p' r' o.list_settings-listed.ensures
 
 pub returns-in-Refused : goal.returns-in-Refused

@@ -21,7 +21,7 @@ module _ (c : After-lay-laid) where
   lent = path_runs s.args.xs.now s.args.ys.now s.args.gxs.now s.args.gys.now
 
   abbrev left : PathRuns
-  left = path_runs c.lay-laid.new.1.0 c.lay-laid.new.1.1.0 c.lay-laid.new.1.1.1.0 c.lay-laid.new.1.1.1.1.0
+  left = path_runs c.lay-laid.new.xs c.lay-laid.new.ys c.lay-laid.new.gxs c.lay-laid.new.gys
 
   told : LayEnsures s.args.j lent c.lay-laid.result left
   told = c.lay-laid.ensures

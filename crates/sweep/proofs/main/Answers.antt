@@ -21,9 +21,9 @@ slice_bounds-answer-end c =
     (subst (λ (x : Input). InputEnsures x r.read_input-read.new.1.0) k.in-Bytes.is r.read_input-read.ensures).1
 
 pub slice_bounds-bytes-end : goal.slice_bounds-bytes-end
-slice_bounds-bytes-end c = let n : length c.answer-text.result.bytes ≡ 192 = search rules in
-    omega (arith, c.answer-text.ensures.fits)
+slice_bounds-bytes-end c = let n : length c.answer_text.result.bytes ≡ 192 = search rules in
+    omega (arith, c.answer_text.ensures.fits)
 
 pub slice_bounds-write_all-end : goal.slice_bounds-write_all-end
-slice_bounds-write_all-end c = let t = c.answer-text.ensures in
+slice_bounds-write_all-end c = let t = c.answer_text.ensures in
     t.counted ∙ ap length (sym t.starts)

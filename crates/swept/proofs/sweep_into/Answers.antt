@@ -31,10 +31,9 @@ returns-in-Accepted c =
     let o = c.before.before.before.before.before.before.before.before.before.before in
     let told = o.before.before.before.before.before.before.before.before.before in
     let r = told.before in
-    let q = o.run-ran.new.1 in
-    let y = q.1.1.1.1 in
-    let p' = path_runs q.0 q.1.0 q.1.1.0 q.1.1.1.0 in
-    let r' = reach_runs y.0 y.1.0 y.1.1.0 in
+    let q = o.run-ran.new in
+    let p' = path_runs q.xs q.ys q.gxs q.gys in
+    let r' = reach_runs q.left q.right q.marks in
     let s = (start r).args.bytes.now in
     subst (λ (a : Swept). IntoEnsures s (path r) (reaches r) a p' r') (sym c.run_told.ensures)
     (accepted_tells s r.read_job-read.result r.read_job-read.ensures (path r) (reaches r) told.in-Accepted.is o.run-ran.result p' r' o.run-ran.ensures)

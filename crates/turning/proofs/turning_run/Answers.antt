@@ -42,10 +42,10 @@ module _ (c : After-sweep_into) where
   start = roomy.before.before.before
 
   abbrev laid : PathRuns
-  laid = let q = c.sweep_into.new.1 in path_runs q.0 q.1.0 q.1.1.0 q.1.1.1.0
+  laid = let q = c.sweep_into.new in path_runs q.xs q.ys q.gxs q.gys
 
   abbrev left : Reaches
-  left = let q = c.sweep_into.new.1.1.1.1.1 in reach_runs q.0 q.1.0 q.1.1.0
+  left = let q = c.sweep_into.new in reach_runs q.left q.right q.marks
 
 pub returns-then-answer-lt-SWEEP_ENTRIES : goal.returns-then-answer-lt-SWEEP_ENTRIES
 returns-then-answer-lt-SWEEP_ENTRIES c = let s = c.before.before.before.before in run_short (bytes s) (answer s) c.if-answer-lt-SWEEP_ENTRIES.true (path s) (reaches s)

@@ -11,10 +11,10 @@ use Rattle.entries.proofs.lists.put_list.Goals as goal
 use Rattle.entries.proofs.lists.put_list.Goals.{After-put_setting, After-put_setting-2}
 
 -- the run keeps its length
-one_kept : (c : After-put_setting) → length c.put_setting.new.0 ≡ length c.args.run.now
+one_kept : (c : After-put_setting) → length c.put_setting.new.run ≡ length c.args.run.now
 one_kept c = c.put_setting.auto.0 ∙ length-set c.args.run.now 0 _
 
-two_kept : (c : After-put_setting-2) → length c.put_setting-2.new.0 ≡ length c.args.run.now
+two_kept : (c : After-put_setting-2) → length c.put_setting-2.new.run ≡ length c.args.run.now
 two_kept c = c.put_setting-2.auto.0 ∙ one_kept c.before.before.before
 
 pub put_setting-requires : goal.put_setting-requires
