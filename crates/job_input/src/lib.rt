@@ -1,7 +1,9 @@
-// A job's bytes from standard input, as every program that answers one job reads them. It rests on the C library alone.
+// A job's bytes from standard input, as every program that answers one job reads them. It rests on the standard library alone.
 #![tactic(auto)]
 
 ghost use Rattle.job_input.specs.Input.{InputEnsures};
+
+use std::io::Read;
 
 // So many bytes, to the input's end or the buffer's; or a read that failed.
 #[derive(Clone, Copy)]
@@ -10,24 +12,23 @@ pub enum Input {
     Failed,
 }
 
-// One read. A read that a signal interrupts before it moves a byte counts as one that failed, as in `io`.
-fn read_some(fd: i32, buffer: &mut [u8]) -> Input
+// One read. A read that a signal interrupts before it moves a byte counts as one that failed.
+fn read_some<R: Read>(reader: &mut R, buffer: &mut [u8]) -> Input
     ensures { InputEnsures result buffer.new }
 {
-    let got = libc::read(fd, buffer);
-    if got < 0 {
-        return Input::Failed;
+    match reader.read(buffer) {
+        Ok(count) => Input::Bytes(count),
+        Err(_) => Input::Failed,
     }
-    Input::Bytes(io::count(got, buffer))
 }
 
 // Reads until the input ends, the buffer is full or a read fails.
-pub fn read_input(fd: i32, buffer: &mut [u8]) -> Input
+pub fn read_input<R: Read>(reader: &mut R, buffer: &mut [u8]) -> Input
     ensures { InputEnsures result buffer.new }
 {
     let mut done = 0;
     while done < buffer.len() {
-        let some = read_some(fd, &mut buffer[done..]);
+        let some = read_some(reader, &mut buffer[done..]);
         let Input::Bytes(more) = some else {
             return Input::Failed;
         };
