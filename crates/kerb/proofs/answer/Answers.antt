@@ -1,6 +1,5 @@
 -- `kerb::answer` meets its contract.
 
-
 use Rattle.kerb.proofs.answer.Goals as goal
 
 pub returns : goal.returns

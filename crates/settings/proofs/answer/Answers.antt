@@ -1,6 +1,5 @@
 -- `settings::answer` meets its contract. Assumes nothing.
 
-
 use Rattle.settings.proofs.answer.Goals as goal
 
 pub returns : goal.returns

@@ -1,6 +1,5 @@
 -- `sweep::answer` meets its contract. Assumes nothing.
 
-
 use Rattle.sweep.proofs.answer.Goals as goal
 
 pub returns : goal.returns
