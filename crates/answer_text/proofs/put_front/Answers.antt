@@ -28,5 +28,5 @@ put_words-requires c = record { ends = omega (arith, longer c.put_signed-a.ensur
 
 pub returns : goal.returns
 unfolding ascii
-returns c = let s = c.before.before.before.before.before.before.before.before in
-    join (join (rw (x s.before.before.before) at c.put_signed-a.ensures) (rw (y s) at c.put_signed-b.ensures)) c.put_words.ensures
+returns c = let s = c.before.before.before.before.before.before.before.before.before.before.before in
+    join (join (rw (x s) at c.put_signed-a.ensures) (rw (y s) at c.put_signed-b.ensures)) c.put_words.ensures

@@ -49,5 +49,5 @@ returns c = let a = c.put_number-a in
     let b = c.put_signed-b in
     let d = c.put_signed-c in
     let e = c.put_signed-d in
-    let s = c.before.before.before.before.before.before.before.before.before.before.before.before.before in
-    join (join (join (join a.ensures (rw (width s.before.before.before.before.before) at b.ensures)) (rw (left s) at d.ensures)) (rw (right s) at e.ensures)) c.put_words.ensures
+    let s = c.before.before.before.before.before.before.before.before.before.before.before.before.before.before.before.before.before.before in
+    join (join (join (join a.ensures (rw (width s) at b.ensures)) (rw (left s) at d.ensures)) (rw (right s) at e.ensures)) c.put_words.ensures

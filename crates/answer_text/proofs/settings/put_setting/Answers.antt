@@ -22,5 +22,5 @@ put_words-requires c = record { ends = omega (arith, longer c.put_number-a.ensur
 
 pub returns : goal.returns
 unfolding ascii
-returns c = let s = c.before.before.before.before.before.before.before.before in
-    join (join c.put_number-a.ensures (rw (width s.before.before.before) at c.put_signed-b.ensures)) c.put_words.ensures
+returns c = let s = c.before.before.before.before.before.before.before.before.before.before.before in
+    join (join c.put_number-a.ensures (rw (width s) at c.put_signed-b.ensures)) c.put_words.ensures
