@@ -3,12 +3,13 @@
 // A line is the kind of the call, what is handed over, ` = ` and what is answered, a run being its length and then its entries. The answer begins
 // with the refusal's number or 0; beside a refusal what is answered by value stands as zeros, and a record or a run as it was handed in.
 #![tactic(auto)]
+
 mod others;
 
 ghost use Rattle.std.specs.Prelude.{◌≡◌, ◌<◌, length};
 
-use libc::STDOUT_FILENO;
 use trial_tools::reading::Cursor;
+use trial_tools::{printing, tables};
 
 // The calls of one kind: how many, how many of them answer as they should, and the line of the first that does not, 0 for none.
 #[derive(Clone, Copy)]
@@ -102,43 +103,40 @@ fn try_lines(text: &[u8]) -> [Count; 9] {
     counts
 }
 
-fn report(name: &[u8], c: Count) {
-    io::write_all(STDOUT_FILENO, name);
-    io::write_all(STDOUT_FILENO, b": ");
-    io::print_decimal(STDOUT_FILENO, c.right);
-    io::write_all(STDOUT_FILENO, b" of ");
-    io::print_decimal(STDOUT_FILENO, c.all);
-    io::write_all(STDOUT_FILENO, b" calls answer as they should");
+fn report(rt: &impl Print, name: &[u8], c: Count) {
+    printing::write_all(rt, name);
+    printing::write_all(rt, b": ");
+    printing::print_decimal(rt, c.right);
+    printing::write_all(rt, b" of ");
+    printing::print_decimal(rt, c.all);
+    printing::write_all(rt, b" calls answer as they should");
     if c.wrong != 0 {
-        io::write_all(STDOUT_FILENO, b"; the first that does not is on line ");
-        io::print_decimal(STDOUT_FILENO, c.wrong);
+        printing::write_all(rt, b"; the first that does not is on line ");
+        printing::print_decimal(rt, c.wrong);
     }
-    io::write_all(STDOUT_FILENO, b"\n");
+    printing::write_all(rt, b"\n");
 }
 
 // Nothing is said where there is no such line.
-fn report_others(c: Count) {
+fn report_others(rt: &impl Print, c: Count) {
     if c.all != 0 {
-        io::print_decimal(STDOUT_FILENO, c.all);
-        io::write_all(
-            STDOUT_FILENO,
-            b" lines are no known call; the first is line ",
-        );
-        io::print_decimal(STDOUT_FILENO, c.wrong);
-        io::write_all(STDOUT_FILENO, b"\n");
+        printing::print_decimal(rt, c.all);
+        printing::write_all(rt, b" lines are no known call; the first is line ");
+        printing::print_decimal(rt, c.wrong);
+        printing::write_all(rt, b"\n");
     }
 }
 
-fn report_all(counts: [Count; 9]) {
-    report(b"place", counts[1]);
-    report(b"step", counts[2]);
-    report(b"widest", counts[3]);
-    report(b"write", counts[4]);
-    report(b"lay", counts[5]);
-    report(b"path turn", counts[6]);
-    report(b"unit turn", counts[7]);
-    report(b"list", counts[8]);
-    report_others(counts[0]);
+fn report_all(rt: &impl Print, counts: [Count; 9]) {
+    report(rt, b"place", counts[1]);
+    report(rt, b"step", counts[2]);
+    report(rt, b"widest", counts[3]);
+    report(rt, b"write", counts[4]);
+    report(rt, b"lay", counts[5]);
+    report(rt, b"path turn", counts[6]);
+    report(rt, b"unit turn", counts[7]);
+    report(rt, b"list", counts[8]);
+    report_others(rt, counts[0]);
 }
 
 // Room for the whole table.
@@ -148,19 +146,19 @@ fn empty_text() -> [u8; 1500000]
     [0; 1500000]
 }
 
-fn main() {
-    let name = b"calls.txt";
-    let file = os::open_read(name);
-    if file < 0 {
-        os::fail(name);
-        return;
-    }
+fn main(rt: HostRuntime) {
+    let name = "calls.txt";
     let mut text = empty_text();
-    let n = io::read_full(file, &mut text);
-    libc::close(file);
+    let n = match tables::read_table(&rt, name, &mut text) {
+        Ok(n) => n,
+        Err(e) => {
+            printing::fail(&rt, name, e);
+            return;
+        }
+    };
     if n == 1500000 {
-        io::write_all(STDOUT_FILENO, b"the table does not fit\n");
+        printing::write_all(&rt, b"the table does not fit\n");
         return;
     }
-    report_all(try_lines(&text[..n]));
+    report_all(&rt, try_lines(&text[..n]));
 }

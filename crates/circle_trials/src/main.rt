@@ -2,14 +2,14 @@
 // a bend the tangent of half the angle between the first unit and the path falls by an exponential.
 // Both stand in the table, data/table.txt, which tools/physics.py writes and explains: rigs are walked along its jobs and held to it, in whole numbers.
 #![tactic(auto)]
+
 mod measure;
 
 use job::{Job, Vehicle};
-use libc::STDOUT_FILENO;
 use path::Laid;
 use plane::Vec2;
 use trial_tools::reading::Cursor;
-use trial_tools::{arguments, lines, places, reading, rigs};
+use trial_tools::{arguments, lines, places, printing, reading, rigs, tables};
 use walk::Walk;
 
 // What is measured from a station on: the last unit's axle on a circle, or the first unit's vector against the line's next one.
@@ -176,34 +176,34 @@ fn read_trial(line: &[u8], kind: usize, from: usize, c: Cursor) -> Trial {
     straight_trial(line, from, c)
 }
 
-fn report_name(t: Trial, units: usize) {
-    io::write_all(STDOUT_FILENO, b"unit ");
-    io::print_decimal(STDOUT_FILENO, units as u64);
+fn report_name(rt: &impl Print, t: Trial, units: usize) {
+    printing::write_all(rt, b"unit ");
+    printing::print_decimal(rt, units as u64);
     if t.circle {
-        io::write_all(STDOUT_FILENO, b" on a circle, its axle at ");
-        io::print_decimal(STDOUT_FILENO, t.radius as u64);
-        io::write_all(STDOUT_FILENO, b": ");
+        printing::write_all(rt, b" on a circle, its axle at ");
+        printing::print_decimal(rt, t.radius as u64);
+        printing::write_all(rt, b": ");
         return;
     }
-    io::write_all(STDOUT_FILENO, b" on the straight after a bend: ");
+    printing::write_all(rt, b" on the straight after a bend: ");
 }
 
-fn report(t: Trial, units: usize, f: Found, length: usize) {
+fn report(rt: &impl Print, t: Trial, units: usize, f: Found, length: usize) {
     let next = f.next;
-    report_name(t, units);
-    io::print_decimal(STDOUT_FILENO, f.stations);
-    io::write_all(STDOUT_FILENO, b" stations, largest deviation ");
-    io::print_decimal(STDOUT_FILENO, f.largest as u64);
-    io::write_all(STDOUT_FILENO, b" ticks of ");
-    io::print_decimal(STDOUT_FILENO, t.most as u64);
+    report_name(rt, t, units);
+    printing::print_decimal(rt, f.stations);
+    printing::write_all(rt, b" stations, largest deviation ");
+    printing::print_decimal(rt, f.largest as u64);
+    printing::write_all(rt, b" ticks of ");
+    printing::print_decimal(rt, t.most as u64);
     if (f.largest <= t.most) & (f.stations != 0) & (next.right & (next.at == length)) {
-        io::write_all(STDOUT_FILENO, b": passed\n");
+        printing::write_all(rt, b": passed\n");
         return;
     }
-    io::write_all(STDOUT_FILENO, b": FAILED\n");
+    printing::write_all(rt, b": FAILED\n");
 }
 
-fn try_line(line: &[u8]) {
+fn try_line(rt: &impl Print, line: &[u8]) {
     let start = Cursor { at: 0, right: true };
     let kind = reading::read_size(line, start);
     let read = arguments::read_job(line, kind.next);
@@ -212,23 +212,21 @@ fn try_line(line: &[u8]) {
     let j = read.job;
     let v = j.vehicle;
     let t = read_trial(line, kind.value, from.value, told);
-    report(t, v.count, try_job(line, t, j), line.len());
+    report(rt, t, v.count, try_job(line, t, j), line.len());
 }
 
-fn try_lines(text: &[u8]) {
+fn try_lines(rt: &impl Print, text: &[u8]) {
     let mut at: usize = 0;
     while at < text.len() {
         let l = lines::line_at(text, at);
         let end = l.end;
-        try_line(&text[at..end]);
+        try_line(rt, &text[at..end]);
         at = l.next;
     }
 }
 
-fn main() {
-    let mut text = io::large_buffer();
-    let file = os::open_read(b"table.txt");
-    let n = io::read_full(file, &mut text);
-    libc::close(file);
-    try_lines(&text[..n]);
+fn main(rt: HostRuntime) {
+    let mut text = [0u8; 65536];
+    let n = tables::read_table(&rt, "table.txt", &mut text).unwrap_or(0);
+    try_lines(&rt, &text[..n]);
 }

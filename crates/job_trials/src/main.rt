@@ -1,10 +1,12 @@
 // Sweeps every job of two tables and compares what is printed with what should be. A line has a job's bytes in hexadecimal digits ("-" for none),
 // a space, and the text, with "/" for each line feed.
 #![tactic(auto)]
+
 ghost use Rattle.std.specs.Prelude.{◌≤◌, length};
 
 use answer_text::Text;
-use libc::STDOUT_FILENO;
+use std::rt::Files;
+use trial_tools::{printing, tables};
 
 // The place of the first byte like this one, or the end.
 fn find(text: &[u8], byte: u8) -> usize
@@ -131,15 +133,15 @@ fn holds(line: &[u8]) -> bool {
 }
 
 // 1 where the line holds; else it is named.
-fn held(line: &[u8], number: usize) -> usize
+fn held(rt: &impl Print, line: &[u8], number: usize) -> usize
     ensures { result ≤ 1 }
 {
     if holds(line) {
         return 1;
     }
-    io::write_all(STDOUT_FILENO, b"FAILED: line ");
-    io::print_decimal(STDOUT_FILENO, number as u64);
-    io::write_all(STDOUT_FILENO, b"\n");
+    printing::write_all(rt, b"FAILED: line ");
+    printing::print_decimal(rt, number as u64);
+    printing::write_all(rt, b"\n");
     0
 }
 
@@ -150,7 +152,7 @@ pub struct Tally {
     pub good: usize,
 }
 
-fn tallied(text: &[u8]) -> Tally {
+fn tallied(rt: &impl Print, text: &[u8]) -> Tally {
     let mut lines: usize = 0;
     let mut good: usize = 0;
     let mut at: usize = 0;
@@ -158,29 +160,28 @@ fn tallied(text: &[u8]) -> Tally {
         let l = trial_tools::lines::line_at(text, at);
         let end = l.end;
         lines += 1;
-        good += held(&text[at..end], lines);
+        good += held(rt, &text[at..end], lines);
         at = l.next;
     }
     Tally { lines, good }
 }
 
-fn report(name: &[u8], t: Tally) {
-    io::write_all(STDOUT_FILENO, name);
-    io::write_all(STDOUT_FILENO, b": ");
-    io::print_decimal(STDOUT_FILENO, t.good as u64);
-    io::write_all(STDOUT_FILENO, b" of ");
-    io::print_decimal(STDOUT_FILENO, t.lines as u64);
-    io::write_all(STDOUT_FILENO, b" jobs print what they should\n");
+fn report(rt: &impl Print, name: &str, t: Tally) {
+    printing::write_all(rt, name.as_bytes());
+    printing::write_all(rt, b": ");
+    printing::print_decimal(rt, t.good as u64);
+    printing::write_all(rt, b" of ");
+    printing::print_decimal(rt, t.lines as u64);
+    printing::write_all(rt, b" jobs print what they should\n");
 }
 
-fn run_table(name: &[u8]) {
+fn run_table<R: Files + Print>(rt: &R, name: &str) {
     let mut table = [0u8; 262144];
-    let file = os::open_read(name);
-    let count = io::read_full(file, &mut table);
-    report(name, tallied(&table[..count]));
+    let count = tables::read_table(rt, name, &mut table).unwrap_or(0);
+    report(rt, name, tallied(rt, &table[..count]));
 }
 
-fn main() {
-    run_table(b"rigs.txt");
-    run_table(b"jobs.txt");
+fn main(rt: HostRuntime) {
+    run_table(&rt, "rigs.txt");
+    run_table(&rt, "jobs.txt");
 }

@@ -2,12 +2,13 @@
 // answers and every entry of the lent runs is held to the line.
 // A line is the kind of the call, what is handed over, ` = ` and what is answered, a run being its length and then its entries.
 #![tactic(auto)]
+
 mod calls;
 
 ghost use Rattle.std.specs.Prelude.{◌≡◌, ◌<◌, length};
 
-use libc::STDOUT_FILENO;
 use trial_tools::reading::Cursor;
+use trial_tools::{printing, tables};
 
 // The calls of each kind, 0 for none such, and how many of them answer as they should; the first line that does not, 0 for none.
 #[derive(Clone, Copy)]
@@ -82,26 +83,26 @@ fn try_lines(text: &[u8]) -> Tally {
     tally
 }
 
-fn report(name: &[u8], right: u64, all: u64) {
-    io::write_all(STDOUT_FILENO, name);
-    io::write_all(STDOUT_FILENO, b": ");
-    io::print_decimal(STDOUT_FILENO, right);
-    io::write_all(STDOUT_FILENO, b" of ");
-    io::print_decimal(STDOUT_FILENO, all);
-    io::write_all(STDOUT_FILENO, b" calls answer as they should\n");
+fn report(rt: &impl Print, name: &[u8], right: u64, all: u64) {
+    printing::write_all(rt, name);
+    printing::write_all(rt, b": ");
+    printing::print_decimal(rt, right);
+    printing::write_all(rt, b" of ");
+    printing::print_decimal(rt, all);
+    printing::write_all(rt, b" calls answer as they should\n");
 }
 
-fn report_all(t: Tally) {
+fn report_all(rt: &impl Print, t: Tally) {
     let all = t.all;
     let right = t.right;
-    report(b"reading a geometry", right[1], all[1]);
-    report(b"report", right[2], all[2]);
-    report(b"report from a job and ticks", right[3], all[3]);
-    report(b"report from a job and a geometry", right[4], all[4]);
+    report(rt, b"reading a geometry", right[1], all[1]);
+    report(rt, b"report", right[2], all[2]);
+    report(rt, b"report from a job and ticks", right[3], all[3]);
+    report(rt, b"report from a job and a geometry", right[4], all[4]);
     if t.wrong != 0 {
-        io::write_all(STDOUT_FILENO, b"the first that does not is on line ");
-        io::print_decimal(STDOUT_FILENO, t.wrong);
-        io::write_all(STDOUT_FILENO, b"\n");
+        printing::write_all(rt, b"the first that does not is on line ");
+        printing::print_decimal(rt, t.wrong);
+        printing::write_all(rt, b"\n");
     }
 }
 
@@ -112,19 +113,19 @@ fn empty_text() -> [u8; 2000000]
     [0; 2000000]
 }
 
-fn main() {
-    let name = b"kerbs.txt";
-    let file = os::open_read(name);
-    if file < 0 {
-        os::fail(name);
-        return;
-    }
+fn main(rt: HostRuntime) {
+    let name = "kerbs.txt";
     let mut text = empty_text();
-    let n = io::read_full(file, &mut text);
-    libc::close(file);
+    let n = match tables::read_table(&rt, name, &mut text) {
+        Ok(n) => n,
+        Err(e) => {
+            printing::fail(&rt, name, e);
+            return;
+        }
+    };
     if n == 2000000 {
-        io::write_all(STDOUT_FILENO, b"the table does not fit\n");
+        printing::write_all(&rt, b"the table does not fit\n");
         return;
     }
-    report_all(try_lines(&text[..n]));
+    report_all(&rt, try_lines(&text[..n]));
 }

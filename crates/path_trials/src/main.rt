@@ -1,5 +1,6 @@
 // Lays document 002's sample path, its half turn and the longest jobs, and checks where they end and what is refused.
 #![tactic(auto)]
+
 ghost use Rattle.std.specs.Prelude.{◌≡◌};
 ghost use Rattle.path.specs.Laying.{path_runs, lay_answer};
 ghost use Rattle.path_trials.specs.Ends.{end_of, refusal_of, Measurable, BothMeasurable};
@@ -7,7 +8,7 @@ ghost use Rattle.path_trials.specs.Ends.{end_of, refusal_of, Measurable, BothMea
 use job::{Curve, Element, Job, Side};
 use path::Laid;
 use plane::Vec2;
-use trial_tools::rigs;
+use trial_tools::{printing, rigs};
 
 // The stations laid, and the place of the last.
 #[derive(Clone, Copy)]
@@ -94,6 +95,7 @@ fn long_job(curve: Curve, count: usize) -> Job {
 
 // One line: the stations, how far the last lies from its target, and whether both are as they should be.
 fn report(
+    rt: &impl Print,
     name: &[u8],
     j: Job,
     stations: usize,
@@ -108,20 +110,21 @@ fn report(
 {
     let end = path_end(j, xs, ys, gxs, gys);
     let off = distance(end.position, target);
-    io::write_all(1, name);
-    io::write_all(1, b": ");
-    io::print_decimal(1, end.stations as u64);
-    io::write_all(1, b" stations, ");
-    io::print_decimal(1, off as u64);
+    printing::write_all(rt, name);
+    printing::write_all(rt, b": ");
+    printing::print_decimal(rt, end.stations as u64);
+    printing::write_all(rt, b" stations, ");
+    printing::print_decimal(rt, off as u64);
     if (end.stations == stations) & (off <= most) {
-        io::write_all(1, b" ticks off: passed\n");
+        printing::write_all(rt, b" ticks off: passed\n");
         return;
     }
-    io::write_all(1, b" ticks off: FAILED\n");
+    printing::write_all(rt, b" ticks off: FAILED\n");
 }
 
 // One line: the number of a refusal, and whether it is as it should be.
 fn report_refusal(
+    rt: &impl Print,
     name: &[u8],
     j: Job,
     number: u8,
@@ -131,17 +134,17 @@ fn report_refusal(
     gys: &mut [i32],
 ) {
     let given = refusal(j, xs, ys, gxs, gys);
-    io::write_all(1, name);
-    io::write_all(1, b": refused ");
-    io::print_decimal(1, given as u64);
+    printing::write_all(rt, name);
+    printing::write_all(rt, b": refused ");
+    printing::print_decimal(rt, given as u64);
     if given == number {
-        io::write_all(1, b": passed\n");
+        printing::write_all(rt, b": passed\n");
         return;
     }
-    io::write_all(1, b": FAILED\n");
+    printing::write_all(rt, b": FAILED\n");
 }
 
-fn main() {
+fn main(rt: HostRuntime) {
     let mut xs = [0i32; 2001];
     let mut ys = [0i32; 2001];
     let mut gxs = [0i32; 2001];
@@ -151,6 +154,7 @@ fn main() {
         y: -300000,
     };
     report(
+        &rt,
         b"quarter turn",
         sample_job(157080),
         85,
@@ -166,6 +170,7 @@ fn main() {
         y: -200000,
     };
     report(
+        &rt,
         b"half turn",
         sample_job(314160),
         116,
@@ -178,6 +183,7 @@ fn main() {
     );
     let north = Vec2 { x: 0, y: 40000000 };
     report(
+        &rt,
         b"2,000 steps straight",
         long_job(Curve::Straight, 1),
         2001,
@@ -193,6 +199,7 @@ fn main() {
         y: 746006,
     };
     report(
+        &rt,
         b"2,000 steps on an arc",
         long_job(Curve::Arc(Side::Right, 1000000), 1),
         2001,
@@ -204,6 +211,7 @@ fn main() {
         &mut gys,
     );
     report_refusal(
+        &rt,
         b"2,001 steps",
         long_job(Curve::Straight, 2),
         9,
@@ -213,6 +221,7 @@ fn main() {
         &mut gys,
     );
     report_refusal(
+        &rt,
         b"an arc of radius 0",
         long_job(Curve::Arc(Side::Left, 0), 1),
         8,
@@ -223,6 +232,7 @@ fn main() {
     );
     let mut short = [0i32; 84];
     report_refusal(
+        &rt,
         b"a run one entry short",
         sample_job(157080),
         21,

@@ -1,13 +1,14 @@
 // Every end of the field table and one beyond it, each in a record that is right in all other fields: read, and written back where it is accepted.
 // The cases stand on standard input, one to a line.
 #![tactic(auto)]
+
 mod records;
 
 use crate::records::Case;
 use job::Job;
 use job_reader::ReadAnswer;
 use job_writer::Wrote;
-use libc::{STDIN_FILENO, STDOUT_FILENO};
+use trial_tools::{printing, tables};
 
 // Whether a run starts with those bytes.
 fn starts_with(run: &[u8], bytes: &[u8]) -> bool {
@@ -144,9 +145,9 @@ fn try_case(s: &[u8], from: usize) -> Tried {
     }
 }
 
-fn main() {
-    let mut table = io::large_buffer();
-    let n = io::read_full(STDIN_FILENO, &mut table);
+fn main(rt: HostRuntime) {
+    let mut table = [0u8; 65536];
+    let n = tables::read_full(&mut rt.reader(), &mut table);
     let mut right: u64 = 0;
     let mut all: u64 = 0;
     let mut at: usize = 0;
@@ -161,8 +162,8 @@ fn main() {
         all += 1;
         at = t.next;
     }
-    io::print_decimal(STDOUT_FILENO, right);
-    io::write_all(STDOUT_FILENO, b" of ");
-    io::print_decimal(STDOUT_FILENO, all);
-    io::write_all(STDOUT_FILENO, b" ends of the field table hold\n");
+    printing::print_decimal(&rt, right);
+    printing::write_all(&rt, b" of ");
+    printing::print_decimal(&rt, all);
+    printing::write_all(&rt, b" ends of the field table hold\n");
 }

@@ -1,17 +1,17 @@
 // Walks document 002's rig round its full turn of 7.5 m and compares its points, step by step, with the table that the document prints.
 // The table, crates/turn_trials/data/table.txt, lies in the folder that the program is run in; docs/TABLE.md says how it was read.
 #![tactic(auto)]
+
 mod spread;
 mod table;
 
 use crate::spread::SQUARES;
 use crate::table::Cell;
 use job::{Job, Vehicle};
-use libc::STDOUT_FILENO;
 use path::Laid;
 use plane::Vec2;
 use trial_tools::places::UNMEASURED;
-use trial_tools::{places, rigs};
+use trial_tools::{places, printing, rigs, tables};
 use walk::Walk;
 
 // From the origin eastwards: 6 m straight, a full turn to the right on 7.5 m, 20 m straight, in steps of 0.5 m.
@@ -134,25 +134,23 @@ fn measure(
 }
 
 // One line: the rows compared for a point, and how far the drawn places lie from the printed ones.
-fn report(name: &[u8], squares: &[i64; SQUARES], point: usize) {
+fn report(rt: &impl Print, name: &[u8], squares: &[i64; SQUARES], point: usize) {
     let rows = spread::rows_within(squares, point, UNMEASURED - 1);
     let median = spread::distance_of(squares, point, rows / 2 + 1);
     let largest = spread::distance_of(squares, point, rows);
-    io::write_all(STDOUT_FILENO, name);
-    io::write_all(STDOUT_FILENO, b": ");
-    io::print_decimal(STDOUT_FILENO, rows as u64);
-    io::write_all(STDOUT_FILENO, b" rows, median ");
-    io::print_decimal(STDOUT_FILENO, median as u64);
-    io::write_all(STDOUT_FILENO, b", largest ");
-    io::print_decimal(STDOUT_FILENO, largest as u64);
-    io::write_all(STDOUT_FILENO, b" ticks\n");
+    printing::write_all(rt, name);
+    printing::write_all(rt, b": ");
+    printing::print_decimal(rt, rows as u64);
+    printing::write_all(rt, b" rows, median ");
+    printing::print_decimal(rt, median as u64);
+    printing::write_all(rt, b", largest ");
+    printing::print_decimal(rt, largest as u64);
+    printing::write_all(rt, b" ticks\n");
 }
 
-fn main() {
-    let mut text = io::large_buffer();
-    let file = os::open_read(b"table.txt");
-    let n = io::read_full(file, &mut text);
-    libc::close(file);
+fn main(rt: HostRuntime) {
+    let mut text = [0u8; 65536];
+    let n = tables::read_table(&rt, "table.txt", &mut text).unwrap_or(0);
     let mut xs = [0i32; 148];
     let mut ys = [0i32; 148];
     let mut gxs = [0i32; 148];
@@ -173,13 +171,13 @@ fn main() {
         &text[..n],
         &mut squares,
     );
-    io::write_all(STDOUT_FILENO, b"full turn on 7.5 m: ");
-    io::print_decimal(STDOUT_FILENO, rows as u64);
-    io::write_all(STDOUT_FILENO, b" stations compared\n");
-    io::write_all(STDOUT_FILENO, b"left front corner: left out\n");
-    report(b"right front corner", &squares, 1);
-    report(b"left front wheel", &squares, 2);
-    report(b"right front wheel", &squares, 3);
-    report(b"left rear wheel", &squares, 4);
-    report(b"right rear wheel", &squares, 5);
+    printing::write_all(&rt, b"full turn on 7.5 m: ");
+    printing::print_decimal(&rt, rows as u64);
+    printing::write_all(&rt, b" stations compared\n");
+    printing::write_all(&rt, b"left front corner: left out\n");
+    report(&rt, b"right front corner", &squares, 1);
+    report(&rt, b"left front wheel", &squares, 2);
+    report(&rt, b"right front wheel", &squares, 3);
+    report(&rt, b"left rear wheel", &squares, 4);
+    report(&rt, b"right rear wheel", &squares, 5);
 }

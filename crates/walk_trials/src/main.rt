@@ -1,9 +1,10 @@
 // Walks three rigs from the first station of their paths to the last, and checks how many steps they make and where they are widest.
 #![tactic(auto)]
+
 use job::{Form, Job, Vehicle};
 use path::Laid;
 use reaches::{Place, WidestAnswer};
-use trial_tools::rigs;
+use trial_tools::{printing, rigs};
 use walk::{StepAnswer, Walk};
 
 // The steps that a walk made, and the record that it ends with.
@@ -116,17 +117,17 @@ fn walks_so(
 }
 
 // One line: the steps, the widest station, and whether both are as they should be.
-fn report(name: &[u8], steps: usize, station: usize, passed: bool) {
-    io::write_all(1, name);
-    io::write_all(1, b": ");
-    io::print_decimal(1, steps as u64);
-    io::write_all(1, b" steps, widest at station ");
-    io::print_decimal(1, station as u64);
+fn report(rt: &impl Print, name: &[u8], steps: usize, station: usize, passed: bool) {
+    printing::write_all(rt, name);
+    printing::write_all(rt, b": ");
+    printing::print_decimal(rt, steps as u64);
+    printing::write_all(rt, b" steps, widest at station ");
+    printing::print_decimal(rt, station as u64);
     if passed {
-        io::write_all(1, b": passed\n");
+        printing::write_all(rt, b": passed\n");
         return;
     }
-    io::write_all(1, b": FAILED\n");
+    printing::write_all(rt, b": FAILED\n");
 }
 
 // The worked straight: one unit of 5 m, its body 2.4 m wide and 1 m ahead of the front axle, 6.5 m due north in steps of 0.5 m.
@@ -183,7 +184,7 @@ fn longest_job() -> Job {
     }
 }
 
-fn main() {
+fn main(rt: HostRuntime) {
     let mut xs = [0i32; 2001];
     let mut ys = [0i32; 2001];
     let mut gxs = [0i32; 2001];
@@ -209,7 +210,7 @@ fn main() {
         &mut right,
         &mut marks,
     );
-    report(b"one unit on a straight", 13, 3, a);
+    report(&rt, b"one unit on a straight", 13, 3, a);
     let quarter = Place {
         station: 34,
         width: 59020,
@@ -228,7 +229,7 @@ fn main() {
         &mut right,
         &mut marks,
     );
-    report(b"tractor and trailer round a quarter turn", 84, 34, b);
+    report(&rt, b"tractor and trailer round a quarter turn", 84, 34, b);
     let longest = Place {
         station: 1246,
         width: 54125,
@@ -247,5 +248,5 @@ fn main() {
         &mut right,
         &mut marks,
     );
-    report(b"four units round and round", 2000, 1246, c);
+    report(&rt, b"four units round and round", 2000, 1246, c);
 }

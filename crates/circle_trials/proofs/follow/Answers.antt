@@ -1,6 +1,5 @@
 -- `circle_trials::follow` is safe and ends.
 use Rattle.std.proofs.Common.{◌-◌, arith}
-
 use Rattle.circle_trials.proofs.follow.Goals as goal
 
 pub overflow_add-made : goal.overflow_add-made

@@ -2,7 +2,6 @@
 use Prim.Native.Nat.{◌-◌}
 use native.Mathlib.Omega.{arith}
 use lib.ListN.{length-take}
-
 use Rattle.job_trials.proofs.holds.Goals as goal
 
 pub slice_bounds-digits-end : goal.slice_bounds-digits-end

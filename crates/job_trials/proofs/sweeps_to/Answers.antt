@@ -4,7 +4,6 @@ use mathlib.Core.Path.{◌≡◌}
 use native.Mathlib.Omega.{arith}
 use lib.ListN.{length, length-take}
 use borrow.Author.Rules.{rules}
-
 use Rattle.job_trials.proofs.sweeps_to.Goals as goal
 use Rattle.job_trials.proofs.sweeps_to.Lts as lts
 use Rattle.job_trials.proofs.sweeps_to.Reads as reads

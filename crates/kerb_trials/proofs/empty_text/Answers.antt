@@ -1,6 +1,5 @@
 -- `kerb_trials::empty_text` meets its contract.
 use Rattle.trial_calls.proofs.RunLaws.{zeros_length}
-
 use Rattle.kerb_trials.proofs.empty_text.Goals as goal
 
 pub returns : goal.returns

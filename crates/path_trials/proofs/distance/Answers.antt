@@ -3,7 +3,6 @@ use mathlib.Core.Path.{sym, subst}
 use Rattle.plane.specs.declared.Vec2.{Vec2}
 use Rattle.plane.specs.Vector.{BothModerate}
 use Rattle.path_trials.proofs.EndLaws.{ends_moderate, gap_moderate}
-
 use Rattle.path_trials.proofs.distance.Goals as goal
 
 pub minus-d-requires : goal.minus-d-requires

@@ -8,7 +8,6 @@ use Rattle.path.specs.declared.Laid.TheVariants as L
 use Rattle.path.specs.Laying.{PathRuns, path_runs, LayEnsures}
 use Rattle.path_trials.specs.Ends.{end_of}
 use Rattle.path_trials.proofs.EndLaws.{some, last_inside, end_read}
-
 use Rattle.path_trials.proofs.path_end.Goals as goal
 use Rattle.path_trials.proofs.path_end.Goals.{After-lay-laid, In-Stations, Start}
 

@@ -1,7 +1,6 @@
 -- `path_trials::refusal` meets its contract.
 use mathlib.Core.Path.{sym, ◌∙◌, ap}
 use Rattle.path_trials.specs.Ends.{refusal_of}
-
 use Rattle.path_trials.proofs.refusal.Goals as goal
 
 pub returns-in-Stations : goal.returns-in-Stations

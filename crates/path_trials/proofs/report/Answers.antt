@@ -4,7 +4,6 @@ use Rattle.path.specs.Laying.{path_runs}
 use Rattle.path_trials.specs.declared.PathEnd.{PathEnd}
 use Rattle.path_trials.specs.Ends.{Measurable}
 use Rattle.path_trials.proofs.EndLaws.{end_measurable}
-
 use Rattle.path_trials.proofs.report.Goals as goal
 
 pub distance-off-requires : goal.distance-off-requires

@@ -1,7 +1,6 @@
 -- `record_table::digit_from` is safe and ends.
 use Prim.Native.Nat.{◌-◌}
 use native.Mathlib.Omega.{arith}
-
 use Rattle.record_table.proofs.digit_from.Goals as goal
 
 pub loop-i-init : goal.loop-i-init

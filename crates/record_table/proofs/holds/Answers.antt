@@ -4,7 +4,6 @@ use native.Mathlib.Omega.{arith}
 use mathlib.Core.Path.{◌≡◌}
 use lib.ListN.{length, length-take}
 use borrow.Author.Rules.{rules}
-
 use Rattle.record_table.proofs.holds.Goals as goal
 use Rattle.record_table.proofs.holds.Goals.{Else-n-gt1024}
 

@@ -2,7 +2,6 @@
 use mathlib.Core.Logic.{⊎_elim}
 use native.Mathlib.Omega.{arith}
 use Prim.Native.Nat.{◌-◌}
-
 use Rattle.record_table.proofs.main.Goals as goal
 
 pub loop-all-init : goal.loop-all-init

@@ -1,7 +1,6 @@
 -- `record_table::starts_with` is safe and ends. Assumes nothing.
 use native.Mathlib.Omega.{arith}
 use Prim.Native.Nat.{◌-◌}
-
 use Rattle.record_table.proofs.starts_with.Goals as goal
 
 pub loop-i-init : goal.loop-i-init

@@ -1,7 +1,6 @@
 -- `walk_trials::walk_along` is safe and ends.
 use Prim.Native.Nat.{◌-◌}
 use native.Mathlib.Omega.{arith}
-
 use Rattle.walk_trials.proofs.walk_along.Goals as goal
 
 pub overflow_add-made : goal.overflow_add-made

@@ -3,7 +3,6 @@ use Rattle.std.proofs.Common.{sym, subst, arith}
 use Rattle.exact.specs.Size.{Within}
 use Rattle.exact.proofs.Polynomial.{var, ◌⊗◌}
 use Rattle.exact.proofs.Machine.{none, ◌∷ᵇ◌, fits}
-
 use Rattle.circle_trials.proofs.measure.square.Goals as goal
 use Rattle.circle_trials.proofs.measure.square.Goals.{After-wide-z}
 

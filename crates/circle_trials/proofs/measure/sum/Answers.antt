@@ -1,7 +1,6 @@
 -- `circle_trials::measure::sum` is safe and ends: places of the map are moderate.
 use Rattle.points.specs.Requires.{PlaceSized}
 use Rattle.trial_tools.proofs.PlaceLaws.{moderate}
-
 use Rattle.circle_trials.proofs.measure.sum.Goals as goal
 use Rattle.circle_trials.proofs.measure.sum.Goals.{Start, Then-is_on_map-2}
 

@@ -1,7 +1,6 @@
 -- `record_table::records::put_units` is safe and ends. Assumes nothing.
 use native.Mathlib.Omega.{arith}
 use Prim.Native.Nat.{◌-◌}
-
 use Rattle.record_table.proofs.records.put_units.Goals as goal
 
 pub loop-i-init : goal.loop-i-init

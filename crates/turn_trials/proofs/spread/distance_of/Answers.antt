@@ -2,7 +2,6 @@
 use Prim.Native.Nat.{◌-◌, ◌≤◌}
 use native.Mathlib.Nat as NatL
 use native.Mathlib.Omega.{arith}
-
 use Rattle.turn_trials.proofs.spread.distance_of.Goals as goal
 
 pub overflow_mul-d : goal.overflow_mul-d

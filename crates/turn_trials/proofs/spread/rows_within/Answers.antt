@@ -2,7 +2,6 @@
 use mathlib.Core.Logic.{⊎_elim}
 use Prim.Native.Nat.{◌-◌}
 use native.Mathlib.Omega.{arith}
-
 use Rattle.turn_trials.proofs.spread.rows_within.Goals as goal
 
 pub loop-i-preserved : goal.loop-i-preserved

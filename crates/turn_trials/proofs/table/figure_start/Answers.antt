@@ -1,7 +1,6 @@
 -- `turn_trials::table::figure_start` is safe and ends.
 use Prim.Native.Nat.{◌-◌}
 use native.Mathlib.Omega.{arith}
-
 use Rattle.turn_trials.proofs.table.figure_start.Goals as goal
 
 pub loop-i-init : goal.loop-i-init

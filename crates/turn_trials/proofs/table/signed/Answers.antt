@@ -4,7 +4,6 @@ use native.Mathlib.Omega.{arith}
 use Rattle.exact.specs.Size.{Within}
 use Rattle.exact.proofs.Polynomial.{var, lit, ◌⊖◌}
 use Rattle.exact.proofs.Machine.{none, ◌∷ᵇ◌, fits}
-
 use Rattle.turn_trials.proofs.table.signed.Goals as goal
 use Rattle.turn_trials.proofs.table.signed.Goals.{After-wide-z}
 
