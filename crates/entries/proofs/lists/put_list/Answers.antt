@@ -12,10 +12,10 @@ use Rattle.entries.proofs.lists.put_list.Goals.{After-put_setting, After-put_set
 
 -- the run keeps its length
 one_kept : (c : After-put_setting) → length c.put_setting.new.run ≡ length c.args.run.now
-one_kept c = c.put_setting.auto.0 ∙ length-set c.args.run.now 0 _
+one_kept c = c.put_setting.auto.run ∙ length-set c.args.run.now 0 _
 
 two_kept : (c : After-put_setting-2) → length c.put_setting-2.new.run ≡ length c.args.run.now
-two_kept c = c.put_setting-2.auto.0 ∙ one_kept c.before.before.before
+two_kept c = c.put_setting-2.auto.run ∙ one_kept c.before.before.before
 
 pub put_setting-requires : goal.put_setting-requires
 put_setting-requires c = record { room = simp length-set (omega (arith, c.requires.room)) }
@@ -27,7 +27,7 @@ pub put_setting-requires-3 : goal.put_setting-requires-3
 put_setting-requires-3 c = let k = c.before.before in record { room = omega (arith, two_kept k, k.requires.room) }
 
 pub shape_of-run : goal.shape_of-run
-shape_of-run c = c.put_setting-3.auto.0 ∙ two_kept c.before.before.before.before
+shape_of-run c = c.put_setting-3.auto.run ∙ two_kept c.before.before.before.before
 
 pub returns : goal.returns
 returns c =
