@@ -1,4 +1,4 @@
-//! Links the static library that `rt staticlib turning` writes; it needs nothing beside the C library.
+//! Links the static library that `tools/build.sh turning` writes; it needs nothing beside the C library.
 
 use std::env;
 use std::path::PathBuf;
@@ -16,7 +16,7 @@ fn main() {
     let archive = lib_dir.join("libturning.a");
     println!("cargo:rerun-if-changed={}", archive.display());
     if !archive.is_file() {
-        eprintln!("{} is not there: run `rt staticlib turning`,", archive.display());
+        eprintln!("{} is not there: run `tools/build.sh turning`,", archive.display());
         eprintln!("or set TURNING_LIB_DIR to its folder, or build the reference alone with --no-default-features");
         std::process::exit(1);
     }

@@ -1,14 +1,22 @@
 #!/usr/bin/env bash
-# Builds every program and the static library, and puts them where tests and callers find them: target/bin/NAME and target/staticlib/libturning.a.
+# Proves and builds programs and the static library, and puts them where callers and tests look: target/bin/NAME and target/staticlib/libturning.a.
+#
+#   tools/build.sh           all of them
+#   tools/build.sh NAME..    these
 set -euo pipefail
 cd "$(dirname "$(readlink -f "${BASH_SOURCE[0]}")")/.."
 mkdir -p target/bin target/staticlib
-for main in crates/*/src/main.rt; do
-    crate=$(basename "$(dirname "$(dirname "$main")")")
-    # rt builds a program by running it; what it prints here is compared by run_programs.py
-    (cd "crates/$crate" && rt run </dev/null >/dev/null 2>"out.log") || { cat "crates/$crate/out.log"; exit 1; }
-    rm -f "crates/$crate/out.log"
-    cp "crates/$crate/out/$crate" target/bin/
+log=$(mktemp)
+trap 'rm -f "$log"' EXIT
+programs() { for main in crates/*/src/main.rt; do basename "${main%/src/main.rt}"; done; }
+[ $# -gt 0 ] || set -- $(programs) turning
+for name in "$@"; do
+    if [ "$name" = turning ]; then
+        (cd crates/turning && rt lib) >"$log" 2>&1 || { cat "$log"; exit 1; }
+        cp crates/turning/out/libturning.a target/staticlib/
+    else
+        # rt builds a program by running it; what it writes is compared elsewhere
+        (cd "crates/$name" && rt run) </dev/null >"$log" 2>&1 || { cat "$log"; exit 1; }
+        cp "crates/$name/out/$name" target/bin/
+    fi
 done
-(cd crates/turning && rt lib)
-cp crates/turning/out/libturning.a target/staticlib/
