@@ -43,9 +43,9 @@ returns-then-answer-lt-TICKS_ENTRIES c = let s = c.before.before.before in ticks
 pub tell_ticks-requires : goal.tell_ticks-requires
 tell_ticks-requires c = let k = c.before.before.before.before in
     let s = start k in
-    record { room = record { room = omega (arith, (roomy k).if1.false) }; ranges = subst ReadFits (sym k.read_kerb.ensures.answer) (read_fits (bytes s) (kerb s) (read_geometry (bytes s)) refl) }
+    record { room = record { room = omega (arith, (roomy k).if-answer-lt-TICKS_ENTRIES.false) }; ranges = subst ReadFits (sym k.read_kerb.ensures.answer) (read_fits (bytes s) (kerb s) (read_geometry (bytes s)) refl) }
 
 pub returns : goal.returns
 returns c = let k = c.before.before.before.before.before.before in
     let s = start k in
-    ticks_called (bytes s) (kerb s) (run s) (omega (arith, (roomy k).if1.false)) k.read_kerb.result _ _ k.read_kerb.ensures _ _ c.tell_ticks.ensures
+    ticks_called (bytes s) (kerb s) (run s) (omega (arith, (roomy k).if-answer-lt-TICKS_ENTRIES.false)) k.read_kerb.result _ _ k.read_kerb.ensures _ _ c.tell_ticks.ensures
