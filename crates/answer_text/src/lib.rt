@@ -1,5 +1,6 @@
 // What a job came to, as the lines that the programs print.
 #![tactic(auto)]
+
 pub mod settings;
 
 ghost use Rattle.std.specs.Prelude.{◌≡◌, ◌++◌, ◌+◌, length};

@@ -1,5 +1,6 @@
 // A sliding bogie: one job walked at each setting of its last wheelbase, and the best three settings listed.
 #![tactic(auto)]
+
 ghost use Rattle.std.specs.Prelude.{◌≡◌};
 ghost use Rattle.path.specs.Laying.{path_runs};
 ghost use Rattle.reaches.specs.Cells.{reach_runs};

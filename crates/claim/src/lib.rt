@@ -1,5 +1,6 @@
 // The claims about whole walks. The functions here run nothing; what they ensure is the claim.
 #![tactic(auto)]
+
 ghost use Rattle.claim.specs.DemandThree.{DemandThree};
 ghost use Rattle.claim.specs.LaidPasses.{LaidPasses};
 ghost use Rattle.claim.specs.NeverWritten.{NeverWritten};

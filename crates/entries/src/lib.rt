@@ -1,5 +1,6 @@
 // A job's answers as programs in C and Rust get them: a number, and the entries at the start of a lent run.
 #![tactic(auto)]
+
 pub mod lists;
 
 ghost use Rattle.std.specs.Prelude.{◌≡◌, [], ◌∷◌, length};

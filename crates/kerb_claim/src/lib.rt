@@ -1,5 +1,6 @@
 // The claims about the kerb report. The functions here run nothing; what they ensure is the claims.
 #![tactic(auto)]
+
 ghost use Rattle.kerb_claim.specs.FirstTouch.{FirstTouch};
 ghost use Rattle.kerb_claim.specs.Worked.{WorkedReports};
 

@@ -1,5 +1,6 @@
 // Whether a walk, as it would go on, touches a kerb, and where first. Nothing here writes a run.
 #![tactic(auto)]
+
 ghost use Rattle.std.specs.Prelude.{◌≡◌, ◌+◌};
 ghost use Rattle.std.proofs.lemmas.List.Edits.{sets};
 ghost use Rattle.path.specs.Laying.{path_runs};

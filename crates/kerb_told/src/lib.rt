@@ -1,5 +1,6 @@
 // What a job and a kerb came to, as the lines that the program prints, and as entries of a lent run.
 #![tactic(auto)]
+
 pub mod entries;
 pub mod ticks;
 

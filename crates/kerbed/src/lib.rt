@@ -1,5 +1,6 @@
 // From a job's bytes and a kerb to the answer that is printed.
 #![tactic(auto)]
+
 ghost use Rattle.std.specs.Prelude.{◌≡◌};
 ghost use Rattle.path.specs.Laying.{path_runs};
 ghost use Rattle.kerb_line.specs.Kerb.{kerb_runs};

@@ -1,5 +1,6 @@
 // From a job's bytes and the numbers of a rail to the list of its settings.
 #![tactic(auto)]
+
 ghost use Rattle.std.specs.Prelude.{◌≡◌};
 ghost use Rattle.path.specs.Laying.{path_runs};
 ghost use Rattle.reaches.specs.Cells.{reach_runs};

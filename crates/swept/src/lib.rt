@@ -1,5 +1,6 @@
 // From a job's bytes to the answer that is printed.
 #![tactic(auto)]
+
 ghost use Rattle.std.specs.Prelude.{◌≡◌};
 ghost use Rattle.path.specs.Laying.{path_runs};
 ghost use Rattle.reaches.specs.Cells.{reach_runs};

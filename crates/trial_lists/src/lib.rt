@@ -1,5 +1,6 @@
 // The list of settings called with what a table's line hands over; its answer and the seven runs are held to the line.
 #![tactic(auto)]
+
 use job::Job;
 use ranking::{Listed, Setting};
 use trial_tools::reading::Cursor;

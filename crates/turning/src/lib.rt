@@ -1,5 +1,6 @@
 // The turning check for programs in C and Rust: numbers and slices in, a number back, and an answer in a lent run.
 #![tactic(auto)]
+
 pub mod kerbs;
 pub mod settings;
 

@@ -1,7 +1,6 @@
 -- `answer_text::empty` meets its contract. Assumes nothing.
 use mathlib.Core.Path.{refl}
 use Rattle.answer_text.specs.Appending.{nothing}
-
 use Rattle.answer_text.proofs.empty.Goals as goal
 
 pub returns : goal.returns

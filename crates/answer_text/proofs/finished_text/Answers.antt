@@ -1,7 +1,6 @@
 -- `answer_text::finished_text` meets its contract. Assumes nothing.
 use native.Mathlib.Omega.{arith}
 use Rattle.answer_text.proofs.LineLaws.{longer, join, at_start, from_start}
-
 use Rattle.answer_text.proofs.finished_text.Goals as goal
 
 pub put_steps-a-requires : goal.put_steps-a-requires

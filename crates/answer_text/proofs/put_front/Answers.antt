@@ -6,7 +6,6 @@ use native.Mathlib.Omega.{arith}
 use Rattle.text.specs.Ascii.{ascii}
 use Rattle.answer_text.proofs.LineLaws.{longer, join}
 use borrow.Author.Rules.{rules}
-
 use Rattle.answer_text.proofs.put_front.Goals as goal
 use Rattle.answer_text.proofs.put_front.Goals.{Start}
 

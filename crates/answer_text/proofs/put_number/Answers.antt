@@ -7,7 +7,6 @@ use Rattle.text.specs.Decimal.{decimal}
 use Rattle.text.proofs.DecimalLaws.{decimal_64}
 use Rattle.answer_text.proofs.LineLaws.{made, longer, join}
 use borrow.Author.Rules.{rules}
-
 use Rattle.answer_text.proofs.put_number.Goals as goal
 use Rattle.answer_text.proofs.put_number.Goals.{Start}
 

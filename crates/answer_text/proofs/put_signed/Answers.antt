@@ -10,7 +10,6 @@ use Rattle.text.specs.Decimal.{signed_decimal}
 use Rattle.text.proofs.DecimalLaws.{signed_64}
 use Rattle.answer_text.proofs.LineLaws.{made, longer, join}
 use borrow.Author.Rules.{rules}
-
 use Rattle.answer_text.proofs.put_signed.Goals as goal
 use Rattle.answer_text.proofs.put_signed.Goals.{Start}
 

@@ -2,7 +2,6 @@
 use native.Mathlib.Omega.{arith}
 use Rattle.text.specs.Ascii.{ascii}
 use Rattle.answer_text.proofs.LineLaws.{within}
-
 use Rattle.answer_text.proofs.put_widest.Goals as goal
 
 pub returns-in-Nothing : goal.returns-in-Nothing

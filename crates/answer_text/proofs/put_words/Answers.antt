@@ -4,7 +4,6 @@ use mathlib.Core.Path.{◌≡◌}
 use lib.ListN.{length}
 use Rattle.answer_text.proofs.LineLaws.{made}
 use borrow.Author.Rules.{rules}
-
 use Rattle.answer_text.proofs.put_words.Goals as goal
 
 pub put_bytes-end-requires : goal.put_bytes-end-requires

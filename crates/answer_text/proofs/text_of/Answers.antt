@@ -2,7 +2,6 @@
 use native.Mathlib.Omega.{arith}
 use Rattle.answer_text.specs.Printed.{printed}
 use Rattle.answer_text.proofs.AnswerLaws.{whole}
-
 use Rattle.answer_text.proofs.text_of.Goals as goal
 
 pub returns-in-Finished : goal.returns-in-Finished

@@ -6,7 +6,6 @@ use Rattle.reaches.specs.declared.Best.{Best}
 use Rattle.run.specs.declared.Ran.{Ran}
 use Rattle.ranking.specs.Ranking.{entered}
 use Rattle.bogie.specs.Fitting.{run_entered, widest_entered}
-
 use Rattle.bogie.proofs.enter_run.Goals as goal
 use Rattle.bogie.proofs.enter_run.Goals.{After-struct_told-1}
 

@@ -7,7 +7,6 @@ use Rattle.reaches.specs.Cells.{Reaches, reach_runs}
 use Rattle.bogie.specs.Settings.{Rail}
 use Rattle.bogie.specs.List.{list_refusal}
 use Rattle.bogie.proofs.ListLaws.{refused_list, not_refused, laid_walkable, walked_list}
-
 use Rattle.bogie.proofs.list_settings.Goals as goal
 use Rattle.bogie.proofs.list_settings.Goals.{After-gys-1, After-lay-laid, After-refusal_of-refusal, Else-refusal-ne0, Start}
 

@@ -3,7 +3,6 @@ use Prim.Native.Nat.{◌-◌, ◌*◌, ◌≤◌}
 use native.Mathlib.Nat.{mul-le-mul}
 use native.Mathlib.Omega.{arith}
 use Rattle.bogie.proofs.RailLaws.{no_pitch, none_settings, too_many, rail_test}
-
 use Rattle.bogie.proofs.rail_allowed.Goals as goal
 use Rattle.bogie.proofs.rail_allowed.Goals.{Else-number-gt32, Start}
 

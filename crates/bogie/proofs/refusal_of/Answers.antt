@@ -15,7 +15,6 @@ use Rattle.walk.specs.Tests.{path_lent, reaches_lent}
 use Rattle.reaches.specs.Cells.{Reaches, reach_runs, lengths_of}
 use Rattle.bogie.specs.Settings.{Rail}
 use Rattle.bogie.proofs.ListLaws.{fault_first, path_short, lent_room, reaches_short, rail_last}
-
 use Rattle.bogie.proofs.refusal_of.Goals as goal
 use Rattle.bogie.proofs.refusal_of.Goals.{Start}
 use Rattle.bogie.proofs.refusal_of.Lts as lts

@@ -10,7 +10,6 @@ use Rattle.run.specs.Run.{OverEnsures}
 use Rattle.bogie.specs.Settings.{Rail, setting_at, vehicle_set}
 use Rattle.bogie.proofs.RailLaws.{in_limits}
 use Rattle.bogie.proofs.WalksLaws.{runs_lengths, next_runnable, next_runs, next_listed, none_listed, last_unit, all_walked}
-
 use Rattle.bogie.proofs.walk_settings.Goals as goal
 use Rattle.bogie.proofs.walk_settings.Goals.{After-loop-i, After-run_over-ran, At-loop-i, In-loop-i, Start}
 use Rattle.bogie.proofs.walk_settings.Lts as lts

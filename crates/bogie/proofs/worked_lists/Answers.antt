@@ -27,7 +27,6 @@ use Rattle.ranking.specs.Ranking.{insert, ranked}
 use Rattle.bogie.specs.Fitting.{fitting}
 use Rattle.bogie.specs.List.{list_refusal}
 use Rattle.bogie.specs.Worked.{WorkedLists}
-
 use Rattle.bogie.proofs.worked_lists.Goals as goal
 
 worked : WorkedLists

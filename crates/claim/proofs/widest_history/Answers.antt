@@ -1,6 +1,5 @@
 -- `claim::widest_history` meets its contract.
 use Rattle.claim.proofs.HistoryClaims.{widest_history_lem}
-
 use Rattle.claim.proofs.widest_history.Goals as goal
 
 pub returns : goal.returns

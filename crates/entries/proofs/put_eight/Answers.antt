@@ -2,7 +2,6 @@
 use mathlib.Core.List.{[], ◌∷◌}
 use mir.Facts.{to_z-of_z}
 use Rattle.answer_run.proofs.EntryLaws.{written_on}
-
 use Rattle.entries.proofs.put_eight.Goals as goal
 
 pub returns : goal.returns

@@ -13,7 +13,6 @@ use Rattle.swept.specs.Ranges.{OnPath}
 use Rattle.entries.specs.Answers.{zeros, finish_with, finish_entries}
 use Rattle.answer_run.proofs.EntryLaws.{count_fits, count_alone}
 use borrow.Author.Rules.{rules}
-
 use Rattle.entries.proofs.put_finish.Goals as goal
 use Rattle.entries.proofs.put_finish.Goals.{In-Found, Start}
 use Rattle.entries.proofs.put_finish.Lts as lts

@@ -6,7 +6,6 @@ use lib.IntN.{ℤ}
 use Rattle.entries.specs.Answers.{sweep_told}
 use Rattle.entries.specs.Inner.{SweptFits}
 use Rattle.answer_run.proofs.EntryLaws.{told_as}
-
 use Rattle.entries.proofs.tell_sweep.Goals as goal
 use Rattle.entries.proofs.tell_sweep.Goals.{Start}
 

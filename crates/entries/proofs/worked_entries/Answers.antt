@@ -1,6 +1,5 @@
 -- `entries::worked_entries` meets its contract, by computing.
 use mathlib.Core.Path.{refl}
-
 use Rattle.entries.proofs.worked_entries.Goals as goal
 
 pub returns : goal.returns

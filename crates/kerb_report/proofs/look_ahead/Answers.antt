@@ -25,7 +25,6 @@ use Rattle.kerb_line.specs.Contact.{lowest_touch}
 use Rattle.kerb_report.specs.Report.{call_over}
 use Rattle.kerb_report.specs.Requires.{Ahead, OnPath}
 use Rattle.kerb_report.proofs.LookLaws.{look_end, on_path, steppable, stopped_here, one_on, same_vehicle, still_ahead, touched_here, clear_here, on_map}
-
 use Rattle.kerb_report.proofs.look_ahead.Goals as goal
 use Rattle.kerb_report.proofs.look_ahead.Goals.{After-next_step-next, After-points_here-news, After-struct_known-1, Else-not-is_made, Start}
 

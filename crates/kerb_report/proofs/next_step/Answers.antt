@@ -2,7 +2,6 @@
 use mathlib.Core.Path.{sym, subst₂}
 use Rattle.path.specs.declared.Station.{Station}
 use Rattle.walk.specs.Moving.{AdvanceReady, AdvanceEnsures}
-
 use Rattle.kerb_report.proofs.next_step.Goals as goal
 
 pub advance-requires : goal.advance-requires

@@ -4,7 +4,6 @@ use lib.Seq.{sets}
 use Rattle.path.specs.declared.Station.{Station}
 use Rattle.points.specs.Points.{no_points, rig_points}
 use Rattle.points.specs.Requires.{RigAt}
-
 use Rattle.kerb_report.proofs.points_here.Goals as goal
 
 pub points-requires : goal.points-requires

@@ -8,7 +8,6 @@ use Rattle.walk.specs.Tests.{path_lent, path_sound, record_sound}
 use Rattle.walk.proofs.RecordTests.{lent_path}
 use Rattle.kerb_line.specs.Kerb.{KerbRuns, kerb_runs, kerb_lent, kerb_sound}
 use Rattle.kerb_report.proofs.RangeLaws.{ensured, path_short, kerb_short_lem, path_unsound, kerb_unsound_lem, rig_unsound, all_passed}
-
 use Rattle.kerb_report.proofs.report.Goals as goal
 use Rattle.kerb_report.proofs.report.Goals.{Else-not-kerb_lent, Else-not-kerb_sound, Else-not-path_lent, Else-not-path_sound, Else-not-record_sound, Start}
 

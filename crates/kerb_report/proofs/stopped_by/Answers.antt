@@ -2,7 +2,6 @@
 use mathlib.Core.Path.{sym, ap}
 use Rattle.walk.specs.Drawn.{Outcome, outcome_of}
 use Rattle.kerb_report.specs.Looking.{stopped_by}
-
 use Rattle.kerb_report.proofs.stopped_by.Goals as goal
 
 pub returns-in-Refused : goal.returns-in-Refused

@@ -2,7 +2,6 @@
 use Rattle.answer_text.proofs.AnswerLaws.{whole}
 use Rattle.kerb_told.specs.Printed.{printed_kerb}
 use native.Mathlib.Omega.{arith}
-
 use Rattle.kerb_told.proofs.kerb_text.Goals as goal
 
 pub returns-in-Nothing : goal.returns-in-Nothing

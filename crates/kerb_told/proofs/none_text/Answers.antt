@@ -2,7 +2,6 @@
 use Rattle.answer_text.proofs.LineLaws.{at_start, from_start}
 use Rattle.text.specs.Ascii.{ascii}
 use native.Mathlib.Omega.{arith}
-
 use Rattle.kerb_told.proofs.none_text.Goals as goal
 
 pub put_words-requires : goal.put_words-requires

@@ -1,6 +1,5 @@
 -- `kerbed::check_geometry` meets its contract.
 use Rattle.kerbed.proofs.SurveyLaws.{faultless, geometry_told, geometry_refused}
-
 use Rattle.kerbed.proofs.check_geometry.Goals as goal
 
 pub survey_job-requires : goal.survey_job-requires

@@ -1,6 +1,5 @@
 -- `kerbed::check_ticks` meets its contract.
 use Rattle.kerbed.proofs.SurveyLaws.{faultless, ticks_told_lem, ticks_refused}
-
 use Rattle.kerbed.proofs.check_ticks.Goals as goal
 
 pub report_job-requires : goal.report_job-requires

@@ -12,7 +12,6 @@ use Rattle.kerb_reader.specs.Claims.{FirstBytes as GeometryFirst}
 use Rattle.kerb_reader.proofs.Places.{first_bytes_lem as geometry-first}
 use Rattle.kerbed.specs.Kerbed.{kerbed_read, kerbed_of}
 use Rattle.kerbed.specs.Claims.{FirstBytes}
-
 use Rattle.kerbed.proofs.first_bytes.Goals as goal
 
 -- the job's first bytes decide it, and the geometry's

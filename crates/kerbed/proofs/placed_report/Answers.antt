@@ -13,7 +13,6 @@ use Rattle.walk.proofs.PathTests.{path_station, station_lent}
 use Rattle.walk.proofs.RecordTests.{lent_path}
 use Rattle.walk.proofs.ReadyLaws.{start_ready}
 use Rattle.kerb_report.specs.Ranges.{ReportEnsures}
-
 use Rattle.kerbed.proofs.placed_report.Goals as goal
 use Rattle.kerbed.proofs.placed_report.Goals.{Start}
 

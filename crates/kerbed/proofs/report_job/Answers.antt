@@ -4,7 +4,6 @@ use Rattle.path.specs.declared.Laid.{Laid}
 use Rattle.path.specs.Laying.{PathRuns, path_runs, LayEnsures}
 use Rattle.swept.specs.Swept.{empty_path}
 use Rattle.kerbed.proofs.KerbedLaws.{laid_not_refused, placeable, job_told}
-
 use Rattle.kerbed.proofs.report_job.Goals as goal
 use Rattle.kerbed.proofs.report_job.Goals.{After-lay-laid, Start}
 

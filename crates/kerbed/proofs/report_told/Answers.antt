@@ -1,7 +1,6 @@
 -- `kerbed::report_told` meets its contract.
 use mathlib.Core.Path.{sym, ap}
 use Rattle.kerbed.specs.Kerbed.{report_told}
-
 use Rattle.kerbed.proofs.report_told.Goals as goal
 
 pub returns-in-Touch : goal.returns-in-Touch

@@ -5,7 +5,6 @@ use Rattle.kerb_reader.specs.Geometry.{read_geometry}
 use Rattle.kerb_reader.specs.declared.KerbRead.{KerbRead}
 use Rattle.kerb_reader.specs.Ticks.{KerbEnsures}
 use Rattle.kerbed.specs.Kerbed.{no_ticks}
-
 use Rattle.kerbed.proofs.survey_job.Goals as goal
 use Rattle.kerbed.proofs.survey_job.Goals.{Start}
 use Rattle.kerbed.proofs.survey_job.Lts as lts

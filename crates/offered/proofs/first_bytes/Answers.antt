@@ -7,7 +7,6 @@ use Rattle.job_writer.proofs.Reach.{first_bytes_lem}
 use Rattle.swept.specs.Claims.{bytes_read}
 use Rattle.offered.specs.Offered.{offered_read, offered_of}
 use Rattle.offered.specs.Claims.{FirstBytes}
-
 use Rattle.offered.proofs.first_bytes.Goals as goal
 
 decided : FirstBytes

@@ -3,7 +3,6 @@ use Rattle.path.specs.Laying.{PathRuns, path_runs}
 use Rattle.reaches.specs.Cells.{Reaches, reach_runs}
 use Rattle.bogie.specs.Settings.{Rail}
 use Rattle.offered.proofs.OfferedLaws.{refused_offers, accepted_offers}
-
 use Rattle.offered.proofs.list_into.Goals as goal
 use Rattle.offered.proofs.list_into.Goals.{Start}
 use Rattle.offered.proofs.list_into.Lts as lts

@@ -1,7 +1,6 @@
 -- `offered::list_job` meets its contract: the same on runs of zeros.
 use Rattle.swept.specs.Swept.{empty_path, empty_reaches}
 use Rattle.offered.proofs.OfferedLaws.{own_offers}
-
 use Rattle.offered.proofs.list_job.Goals as goal
 
 pub returns : goal.returns

@@ -2,7 +2,6 @@
 use mathlib.Core.Path.{refl}
 use Rattle.offered.specs.Offered.{offered_of}
 use Rattle.offered.specs.Claims.{RecordFirst}
-
 use Rattle.offered.proofs.record_first.Goals as goal
 
 first : RecordFirst

@@ -4,7 +4,6 @@ use native.Mathlib.Omega.{arith}
 use Rattle.job_writer.proofs.Reach.{first_bytes_lem}
 use Rattle.swept.specs.Swept.{swept_read, swept_of}
 use Rattle.swept.specs.Claims.{bytes_read, FirstBytes}
-
 use Rattle.swept.proofs.first_bytes.Goals as goal
 
 decided : FirstBytes

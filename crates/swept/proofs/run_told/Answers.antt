@@ -1,7 +1,6 @@
 -- `swept::run_told` meets its contract, answer by answer.
 use mathlib.Core.Path.{sym, ap}
 use Rattle.swept.specs.Swept.{swept_run}
-
 use Rattle.swept.proofs.run_told.Goals as goal
 
 pub returns-in-Finished : goal.returns-in-Finished

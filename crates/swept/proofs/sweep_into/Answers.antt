@@ -5,7 +5,6 @@ use Rattle.reaches.specs.Cells.{Reaches, reach_runs}
 use Rattle.swept.specs.declared.Swept.{Swept}
 use Rattle.swept.specs.Ranges.{IntoEnsures}
 use Rattle.swept.proofs.SweptLaws.{refused_tells, accepted_tells}
-
 use Rattle.swept.proofs.sweep_into.Goals as goal
 use Rattle.swept.proofs.sweep_into.Goals.{Start}
 use Rattle.swept.proofs.sweep_into.Lts as lts

@@ -1,7 +1,6 @@
 -- `swept::sweep_job` meets its contract: the same on runs of zeros.
 use Rattle.swept.specs.Swept.{empty_path, empty_reaches}
 use Rattle.swept.proofs.SweptLaws.{own_tells}
-
 use Rattle.swept.proofs.sweep_job.Goals as goal
 
 pub returns : goal.returns

@@ -1,6 +1,5 @@
 -- `turning::turning_path_turn` meets its contract: that of `answer_run::turns::path_turn`.
 use mir.Facts.{to_z-of_z}
-
 use Rattle.turning.proofs.turning_path_turn.Goals as goal
 
 -- the numbers are read back from their bits as they were

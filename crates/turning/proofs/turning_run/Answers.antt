@@ -6,7 +6,6 @@ use lib.IntN.{ℤ}
 use Rattle.path.specs.Laying.{PathRuns, path_runs}
 use Rattle.reaches.specs.Cells.{Reaches, reach_runs}
 use Rattle.turning.proofs.CallLaws.{fits, run_short, run_called}
-
 use Rattle.turning.proofs.turning_run.Goals as goal
 use Rattle.turning.proofs.turning_run.Goals.{Start}
 use Rattle.turning.proofs.turning_run.Lts as lts

@@ -5,7 +5,6 @@ use native.Mathlib.Omega.{arith}
 use lib.IntN.{ℤ}
 use Rattle.swept.proofs.SweptLaws.{answered_into}
 use Rattle.turning.proofs.CallLaws.{fits, sweep_short, sweep_called}
-
 use Rattle.turning.proofs.turning_sweep.Goals as goal
 use Rattle.turning.proofs.turning_sweep.Goals.{Start}
 use Rattle.turning.proofs.turning_sweep.Lts as lts

@@ -1,6 +1,5 @@
 -- `turning::turning_unit_turn` meets its contract: that of `answer_run::turns::unit_turn`.
 use mir.Facts.{to_z-of_z}
-
 use Rattle.turning.proofs.turning_unit_turn.Goals as goal
 
 -- the numbers are read back from their bits as they were

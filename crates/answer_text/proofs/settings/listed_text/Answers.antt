@@ -1,7 +1,6 @@
 -- `answer_text::settings::listed_text` meets its contract. Assumes nothing.
 use native.Mathlib.Omega.{arith}
 use Rattle.answer_text.proofs.LineLaws.{longer, join, within, at_start, from_start}
-
 use Rattle.answer_text.proofs.settings.listed_text.Goals as goal
 
 pub put_setting-requires : goal.put_setting-requires

@@ -2,7 +2,6 @@
 use native.Mathlib.Omega.{arith}
 use Rattle.text.specs.Ascii.{ascii}
 use Rattle.answer_text.proofs.LineLaws.{longer, join, at_start, from_start}
-
 use Rattle.answer_text.proofs.settings.numbered_text.Goals as goal
 
 pub put_number-a-requires : goal.put_number-a-requires

@@ -6,7 +6,6 @@ use mir.Val.{to_z, of_z}
 use Rattle.text.specs.Ascii.{ascii}
 use Rattle.answer_text.proofs.LineLaws.{longer, join}
 use borrow.Author.Rules.{rules}
-
 use Rattle.answer_text.proofs.settings.put_setting.Goals as goal
 use Rattle.answer_text.proofs.settings.put_setting.Goals.{Start}
 

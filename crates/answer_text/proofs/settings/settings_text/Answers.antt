@@ -2,7 +2,6 @@
 use native.Mathlib.Omega.{arith}
 use Rattle.answer_text.specs.Settings.{printed_settings}
 use Rattle.answer_text.proofs.AnswerLaws.{whole}
-
 use Rattle.answer_text.proofs.settings.settings_text.Goals as goal
 
 pub returns-in-Listed : goal.returns-in-Listed

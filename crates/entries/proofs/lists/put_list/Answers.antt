@@ -6,7 +6,6 @@ use lib.ListN.{length, length-set}
 use mir.Facts.{to_z-of_z}
 use Rattle.entries.specs.Lists.{setting_entries}
 use Rattle.answer_run.proofs.EntryLaws.{written_on}
-
 use Rattle.entries.proofs.lists.put_list.Goals as goal
 use Rattle.entries.proofs.lists.put_list.Goals.{After-put_setting, After-put_setting-2}
 

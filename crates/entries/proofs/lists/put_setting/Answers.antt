@@ -7,7 +7,6 @@ use lib.IntN.{pos}
 use borrow.Author.Rules.{rules}
 use Rattle.exact.proofs.Machine.{reread}
 use Rattle.answer_run.proofs.EntryLaws.{count_alone}
-
 use Rattle.entries.proofs.lists.put_setting.Goals as goal
 use Rattle.entries.proofs.lists.put_setting.Goals.{After-struct_known-1}
 use Rattle.entries.proofs.lists.put_setting.Lts as lts

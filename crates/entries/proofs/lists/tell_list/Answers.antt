@@ -5,7 +5,6 @@ use lib.Seq.{sets}
 use lib.IntN.{ℤ, pos}
 use Rattle.entries.specs.Lists.{three_entries, list_told}
 use Rattle.answer_run.proofs.EntryLaws.{told_as}
-
 use Rattle.entries.proofs.lists.tell_list.Goals as goal
 use Rattle.entries.proofs.lists.tell_list.Goals.{Start}
 

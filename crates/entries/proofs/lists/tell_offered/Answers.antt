@@ -5,7 +5,6 @@ use lib.IntN.{ℤ}
 use Rattle.entries.specs.Lists.{settings_told}
 use Rattle.entries.specs.Inner.{OfferedFits}
 use Rattle.answer_run.proofs.EntryLaws.{told_as}
-
 use Rattle.entries.proofs.lists.tell_offered.Goals as goal
 use Rattle.entries.proofs.lists.tell_offered.Goals.{Start}
 

@@ -7,7 +7,6 @@ use mathlib.Core.Path.{refl, ◌∙◌, subst}
 use lib.Seq.{sets}
 use Rattle.kerb_told.specs.Entries.{touch_told}
 use native.Mathlib.Omega.{arith}
-
 use Rattle.kerb_told.proofs.entries.tell_touch.Goals as goal
 use Rattle.kerb_told.proofs.entries.tell_touch.Goals.{After-put_three-arg-in-Touch-1}
 

@@ -1,6 +1,5 @@
 -- `kerb_told::entries::worked_entries` meets its contract, by computing.
 use mathlib.Core.Path.{refl}
-
 use Rattle.kerb_told.proofs.entries.worked_entries.Goals as goal
 
 pub returns : goal.returns

@@ -7,7 +7,6 @@ use lib.IntN.{ℤ}
 use Rattle.kerb_told.specs.Entries.{ticks_told}
 use Rattle.kerb_told.specs.Inner.{ReadFits}
 use native.Mathlib.Omega.{arith}
-
 use Rattle.kerb_told.proofs.ticks.tell_ticks.Goals as goal
 use Rattle.kerb_told.proofs.ticks.tell_ticks.Goals.{In-Vertices}
 

@@ -4,7 +4,6 @@ use Rattle.trial_calls.proofs.RunLaws.{counted}
 use borrow.Author.Rules.{rules}
 use native.Mathlib.Omega.{arith}
 use Prim.Native.Nat.{◌-◌}
-
 use Rattle.trial_calls.proofs.runs.read_run.Goals as goal
 
 pub loop-i-preserved : goal.loop-i-preserved

@@ -8,7 +8,6 @@ use Rattle.kerb_line.specs.Kerb.{KerbRuns, kerb_runs}
 use Rattle.kerb_reader.specs.Geometry.{read_geometry}
 use Rattle.kerb_told.specs.Inner.{ReadFits}
 use Rattle.turning.proofs.KerbLaws.{read_fits, ticks_short, ticks_called}
-
 use Rattle.turning.proofs.kerbs.turning_kerb_ticks.Goals as goal
 use Rattle.turning.proofs.kerbs.turning_kerb_ticks.Goals.{Start}
 use Rattle.turning.proofs.kerbs.turning_kerb_ticks.Lts as lts

@@ -5,7 +5,6 @@ use mathlib.Core.List.{List}
 use lib.IntN.{ℤ}
 use Rattle.kerb_line.specs.Kerb.{KerbRuns, kerb_runs}
 use Rattle.turning.proofs.KerbLaws.{touch_fits, touch_short, touch_called}
-
 use Rattle.turning.proofs.kerbs.turning_kerb_touch.Goals as goal
 use Rattle.turning.proofs.kerbs.turning_kerb_touch.Goals.{Start}
 use Rattle.turning.proofs.kerbs.turning_kerb_touch.Lts as lts

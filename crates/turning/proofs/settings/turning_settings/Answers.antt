@@ -7,7 +7,6 @@ use Rattle.path.specs.Laying.{PathRuns, path_runs}
 use Rattle.reaches.specs.Cells.{Reaches, reach_runs}
 use Rattle.bogie.specs.Settings.{Rail}
 use Rattle.turning.proofs.SettingsLaws.{offer_fits, settings_short, settings_called}
-
 use Rattle.turning.proofs.settings.turning_settings.Goals as goal
 use Rattle.turning.proofs.settings.turning_settings.Goals.{Start}
 use Rattle.turning.proofs.settings.turning_settings.Lts as lts
