@@ -1,7 +1,7 @@
 -- Conventions of 01 and of 02, N3, that no law fixes, such as signs, orders and starting values: the rows of one list, covered by one claim.
 use Rattle.std.specs.Prelude.{ℕ, ◌+◌, ◌≡◌, Bool, true, false, List, [], ◌∷◌, length, ℤ, pos}
 use Rattle.plane.specs.declared.Vec2.{Vec2}
-use Rattle.number.specs.Read.{Read, got, refused as notRead}
+use Rattle.number.specs.Read.{Read, got, refused as not_read}
 use Rattle.number.specs.Number.{read_number}
 use Rattle.job.specs.declared.Unit.{Unit as VehicleUnit}
 use Rattle.job.specs.declared.Vehicle.{Vehicle}
@@ -51,7 +51,7 @@ Holds (number_read bytes answer) = read_number bytes 0 ≡ answer
 Holds (element_cut step length answer) = cuts step length ≡ answer
 Holds (heading_tested g answer) = heading_allowed g.x g.y ≡ answer × station_sound (station (vec (pos 0) (pos 0)) g) ≡ answer
 Holds (job_judged j answer) = judge j ≡ answer
-Holds (job_refused bytes number place) = read_job bytes ≡ notRead number place
+Holds (job_refused bytes number place) = read_job bytes ≡ not_read number place
 Holds (placed v c ds) = place_refusal v c ≡ 0 × drawn_start v (start_heading c) ≡ rig v 0 ds
 Holds (placement_refused v c number) = place_refusal v c ≡ number
 Holds (stepped s c answer state) = draw_step s c ≡ record { answer = answer; state = state }
@@ -72,10 +72,10 @@ made_step s c ds = stepped s c made (rig s.vehicle (s.station + 1) ds)
 abbrev pub convention_rows : List Row
 convention_rows =
     -- "A fifth group with its top bit set is 2", also where the bytes end with it; four such groups are 1; "value at most 4,294,967,295", and one more is 2
-    number_read (0x80 ∷ 0x80 ∷ 0x80 ∷ 0x80 ∷ 0x80 ∷ []) (notRead 2 0)
-    ∷ number_read (0x80 ∷ 0x80 ∷ 0x80 ∷ 0x80 ∷ []) (notRead 1 0)
+    number_read (0x80 ∷ 0x80 ∷ 0x80 ∷ 0x80 ∷ 0x80 ∷ []) (not_read 2 0)
+    ∷ number_read (0x80 ∷ 0x80 ∷ 0x80 ∷ 0x80 ∷ []) (not_read 1 0)
     ∷ number_read (0xFF ∷ 0xFF ∷ 0xFF ∷ 0xFF ∷ 0x0F ∷ []) (got 4294967295 5)
-    ∷ number_read (0x80 ∷ 0x80 ∷ 0x80 ∷ 0x80 ∷ 0x10 ∷ []) (notRead 2 0)
+    ∷ number_read (0x80 ∷ 0x80 ∷ 0x80 ∷ 0x80 ∷ 0x10 ∷ []) (not_read 2 0)
     -- "An element is cut into full steps and, where a remainder is left, one shorter step": by the ticks before each step, and its own
     ∷ element_cut 5000 12001 (cut 0 5000 ∷ cut 5000 5000 ∷ cut 10000 2001 ∷ [])
     ∷ element_cut 5000 10000 (cut 0 5000 ∷ cut 5000 5000 ∷ [])

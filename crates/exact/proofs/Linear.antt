@@ -1,4 +1,4 @@
--- The bridge to_omega `omega`: a number of ℤ as a difference of two naturals, so that an inequality of ℤ is one of ℕ.
+-- The bridge to `omega`: a number of ℤ as a difference of two naturals, so that an inequality of ℤ is one of ℕ.
 use mathlib.Core.Path.{◌≡◌, refl, sym, ◌∙◌, ap, ap₂, subst₂}
 use mathlib.Core.List.{List, [], ◌∷◌}
 use Prim.Native.Nat.{ℕ, zero, suc, ◌+◌, ◌*◌, ◌≤◌}
@@ -74,7 +74,7 @@ module _ (ρ : List ℤ) where
       ≤-pos (le {ρ = pos (upper e ρ) ∷ pos (lower e ρ) ∷ pos (upper f ρ) ∷ pos (lower f ρ) ∷ []} (var 0 ⊕ var 3) (var 2 ⊕ var 1)
       (hyp (var 0 ⊖ var 1) (var 2 ⊖ var 3) (subst₂ (λ (x y : ℤ). x ≤ℤ y) (parts e ρ) (parts f ρ) h)) tt)
 
-  -- e ≤ f, from_omega omega
+  -- e ≤ f, from omega
   pub from_omega : (e f : Expr) → upper e ρ + lower f ρ ≤ upper f ρ + lower e ρ → eval e ρ ≤ℤ eval f ρ
   from_omega e f h =
       subst₂ (λ (x y : ℤ). x ≤ℤ y) (sym (parts e ρ)) (sym (parts f ρ))

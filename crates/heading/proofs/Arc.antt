@@ -1,4 +1,4 @@
--- On an arc the paper's formula is the turn by the half_angle tangent s / (2|r|), which is at most one half.
+-- On an arc the paper's formula is the turn by the half-angle tangent s / (2|r|), which is at most one half.
 use mathlib.Core.Path.{◌≡◌, refl, ap₂}
 use mathlib.Core.List.{List, [], ◌∷◌}
 use Prim.Native.Nat.{zero, suc, ◌*◌}

@@ -1,4 +1,4 @@
--- The turn by a half_angle tangent is an exact turn, so it keeps a heading's length; and nothing in it overflows.
+-- The turn by a half-angle tangent is an exact turn, so it keeps a heading's length; and nothing in it overflows.
 use mathlib.Core.List.{List, [], ◌∷◌}
 use lib.Dec.{lit≤}
 use lib.IntN.{ℤ, pos, nat_abs, ◌*ℤ◌}

@@ -5,7 +5,7 @@ use Rattle.plane.specs.Vector.{dot, norm_sq, plus, times, right_normal, nearest_
 use Rattle.plane.specs.Length.{heading_length, Near}
 use Rattle.plane.specs.Drawn.{drawn}
 
--- the turn to the right by the half_angle tangent p / q: ((q² − p²)g + 2pq·n) / (q² + p²) with n the right-hand normal of g
+-- the turn to the right by the half-angle tangent p / q: ((q² − p²)g + 2pq·n) / (q² + p²) with n the right-hand normal of g
 abbrev pub rotated : Vec2 → ℤ → ℤ → Vec2
 rotated g p q = plus (times g (q *ℤ q -ℤ p *ℤ p)) (times (right_normal g) (pos 2 *ℤ p *ℤ q))
 
@@ -37,7 +37,7 @@ heading_after g s (pos zero) = g
 heading_after g s (pos (suc r)) = arc_turn g s (pos (suc r)) (right_normal g)
 heading_after g s (negsuc r) = arc_turn g s (negsuc r) (times (right_normal g) (negsuc 0))
 
--- the half_angle tangent of a step on an arc is s / (2|r|), to the side of r
+-- the half-angle tangent of a step on an arc is s / (2|r|), to the side of r
 abbrev pub tangent_of : ℤ → ℤ → ℤ
 tangent_of s (pos r) = s
 tangent_of s (negsuc r) = neg_ℤ s
@@ -50,7 +50,7 @@ move_of g g' s = nearest_v (times (plus g g') s) (pos 2 *ℤ heading_length)
 abbrev pub ArcRule : Type 0
 ArcRule = (g : Vec2) (s : ℤ) (r : ℤ) → (r ≡ pos 0 → ⊥) → heading_after g s r ≡ turned_by g (tangent_of s r) (pos 2 *ℤ pos (nat_abs r))
 
--- what a half_angle tangent is, apart from the formula: w / S is g turned to the right by twice the angle with tangent p / q.
+-- what a half-angle tangent is, apart from the formula: w / S is g turned to the right by twice the angle with tangent p / q.
 -- With n the right-hand normal of g, w · n / (S|g|²) is the turn's sine and w · g / (S|g|²) its cosine; tan (half the angle) is sin / (1 + cos),
 -- so q sin = p (1 + cos). A half turn would meet that too, but its cosine is −1.
 pub record HalfAngle (g : Vec2) (p q : ℤ) (w : Vec2) (S : ℤ) : Type 0 where
@@ -58,6 +58,6 @@ pub record HalfAngle (g : Vec2) (p q : ℤ) (w : Vec2) (S : ℤ) : Type 0 where
   pub tangent : q *ℤ dot w (right_normal g) ≡ p *ℤ (dot w g +ℤ S *ℤ norm_sq g)
   pub short : pos 1 ≤ℤ q → pos 1 ≤ℤ norm_sq g → pos 0 <ℤ (dot w g +ℤ S *ℤ norm_sq g)
 
--- the claim: the exact turn by p / q has that half_angle tangent
+-- the claim: the exact turn by p / q has that half-angle tangent
 abbrev pub TangentRule : Type 0
 TangentRule = (g : Vec2) (p q : ℤ) → HalfAngle g p q (rotated g p q) (rotation_scale p q)

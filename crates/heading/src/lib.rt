@@ -29,7 +29,7 @@ pub enum PathTurn {
     Refused(u8),
 }
 
-// g turned to the right by the half_angle tangent p / q.
+// g turned to the right by the half-angle tangent p / q.
 fn turn_heading(g: Vec2, p: i64, q: i64) -> Vec2
     requires { Tangent g p q }
     ensures { result ≡ turned_by g p q }
@@ -103,7 +103,7 @@ pub fn tangent_rule()
     ensures { TangentRule }
 {}
 
-// Claim: on an arc the heading turns by the half_angle tangent s / (2|r|).
+// Claim: on an arc the heading turns by the half-angle tangent s / (2|r|).
 pub fn arc_rule()
     ensures { ArcRule }
 {}

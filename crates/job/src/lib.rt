@@ -8,7 +8,7 @@ ghost use Rattle.std.specs.Prelude.{◌≡◌};
 ghost use Rattle.number.specs.Field.{within, size_at_most};
 ghost use Rattle.job.specs.Allowed.{hitch_most, fold_allowed, overhang_most, curve_allowed, heading_allowed, start_allowed};
 ghost use Rattle.job.specs.Steps.{steps_of, tally, steps_allowed};
-ghost use Rattle.job.specs.Faults.{vehicle_fault, judge as judgeOf};
+ghost use Rattle.job.specs.Faults.{vehicle_fault, judge as judge_of};
 ghost use Rattle.job.specs.Empty.{empty_body, empty_units, empty_elements, empty_vehicle, empty_job};
 ghost use Rattle.job.specs.Inner.{Countable};
 
@@ -219,7 +219,7 @@ fn is_within_count(range: Range, count: usize) -> bool
 
 // The first fault of a job, 3 to 9 in the order of its fields, or 0 for none.
 pub fn judge(j: Job) -> u8
-    ensures { result ≡ judgeOf j }
+    ensures { result ≡ judge_of j }
 {
     let fault = vehicle_fault(j.vehicle);
     if fault != 0 {

@@ -1,7 +1,7 @@
 // The bounds of a step's moves: a segment that lies beyond them is told by comparisons alone, for all points at once.
 ghost use Rattle.std.specs.Prelude.{◌≡◌};
 ghost use Rattle.marks.specs.Requires.{Counted};
-ghost use Rattle.kerb_line.specs.Inner.{smaller as smallerZ, greater as greaterZ, widened as widenedOf, Enclosed, beyond as beyondZ};
+ghost use Rattle.kerb_line.specs.Inner.{smaller as smaller_z, greater as greater_z, widened as widened_of, Enclosed, beyond as beyond_z};
 
 use marks::POINT_CAPACITY;
 use plane::Vec2;
@@ -15,20 +15,20 @@ pub(crate) struct Bounds {
 }
 
 fn smaller(a: i64, b: i64) -> i64
-    ensures { result ≡ smallerZ a b }
+    ensures { result ≡ smaller_z a b }
 {
     if a <= b { a } else { b }
 }
 
 fn greater(a: i64, b: i64) -> i64
-    ensures { result ≡ greaterZ a b }
+    ensures { result ≡ greater_z a b }
 {
     if a <= b { b } else { a }
 }
 
 // The bounds widened to take in a place.
 fn widened(b: Bounds, v: Vec2) -> Bounds
-    ensures { result ≡ widenedOf b v }
+    ensures { result ≡ widened_of b v }
 {
     let x = v.x;
     let y = v.y;
@@ -70,7 +70,7 @@ pub(crate) fn of_moves(
 
 // Whether the segment from v to w lies wholly to one side of the bounds.
 pub(crate) fn beyond(b: Bounds, v: Vec2, w: Vec2) -> bool
-    ensures { result ≡ beyondZ b v w }
+    ensures { result ≡ beyond_z b v w }
 {
     let vx = v.x;
     let vy = v.y;

@@ -4,12 +4,12 @@ use Rattle.swept.specs.Claims.{bytes_read}
 use Rattle.kerb_line.specs.Kerb.{kerb_runs, kerb_lent, kerb_sound}
 use Rattle.kerb_reader.specs.declared.KerbRead.TheVariants as R
 use Rattle.kerb_reader.specs.Ticks.{KerbEnsures}
-use Rattle.kerb_reader.specs.Claims.{bytes_read as geometryBytesRead}
+use Rattle.kerb_reader.specs.Claims.{bytes_read as geometry_bytes_read}
 use Rattle.kerbed.specs.Kerbed.{kerbed_of}
 
 -- of longer inputs the bytes that the program reads decide the answer
 abbrev pub FirstBytes : Type 0
-FirstBytes = (s g : List ℕ) → kerbed_of s g ≡ kerbed_of (take bytes_read s) (take geometryBytesRead g)
+FirstBytes = (s g : List ℕ) → kerbed_of s g ≡ kerbed_of (take bytes_read s) (take geometry_bytes_read g)
 
 -- a kerb that was read passes the report's 21 and 26
 abbrev pub ReadPasses : Type 0

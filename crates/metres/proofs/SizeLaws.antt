@@ -12,7 +12,7 @@ use lib.Ieee.{Float, nan, inf, fin, Format, binary64, prec, emax, low, up, down,
 use lib.Ieee.Fits.{down_pos, round_is}
 use lib.Ieee.Exact.{HasValue}
 use lib.Ieee.Order.{round_mono}
-use Rattle.metres.specs.Tick.{size_at_most, Sized, ticks_aMetre, metres_most, ticks_most}
+use Rattle.metres.specs.Tick.{size_at_most, Sized, ticks_a_metre, metres_most, ticks_most}
 
 -- at most is below or equal, whichever way round the equality q is tested
 at_most : (a b : ℕ) (q : Bool) → (a ≡ b → q ≡ true) → ((a ≡ b → ⊥) → q ≡ false) → (ltb a b || (q && true)) ≡ leb a b
@@ -114,7 +114,7 @@ unfolding round
 whole_is = refl
 
 -- the product keeps the bound: 15,000 · 10,000 needs no rounding, and rounding keeps the order
-pub product_sized : (x : Float) → Sized metres_most x → Sized ticks_most (mul binary64 x ticks_aMetre)
+pub product_sized : (x : Float) → Sized metres_most x → Sized ticks_most (mul binary64 x ticks_a_metre)
 unfolding size_at_most mul
 product_sized nan h = absurd h.sized
 product_sized (inf s) h = absurd h.sized

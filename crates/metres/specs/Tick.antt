@@ -35,12 +35,12 @@ nearest_whole (inf s) = pos 0
 nearest_whole (fin s m e) = nearest_z (signed s (m * up e)) (pos (down e))
 
 -- 10,000 is 625 · 2^4
-abbrev pub ticks_aMetre : Float
-ticks_aMetre = fin false 625 (pos 4)
+abbrev pub ticks_a_metre : Float
+ticks_a_metre = fin false 625 (pos 4)
 
 -- "multiplied by 10,000, rounded once by the float unit": what `mul` is
 abbrev pub product : Float → Float
-product x = mul binary64 x ticks_aMetre
+product x = mul binary64 x ticks_a_metre
 
 unfoldable pub tick_of : Float → ℤ
 tick_of x = nearest_whole (product x)

@@ -3,7 +3,7 @@
 
 ghost use Rattle.std.specs.Prelude.{◌≡◌, pos, length, get_or, set};
 ghost use Rattle.exact.specs.Nearest.{Divisor};
-ghost use Rattle.plane.specs.Vector.{dot as dotZ, plus as plusZ, minus as minusZ, nearest_v, BothModerate};
+ghost use Rattle.plane.specs.Vector.{dot as dot_z, plus as plus_z, minus as minus_z, nearest_v, BothModerate};
 ghost use Rattle.plane.specs.Length.{has_length, Nominal};
 ghost use Rattle.plane.specs.Settle.{settle_z, Settleable};
 ghost use Rattle.plane.specs.Drawn.{drawn, Drawable, DrawnRule};
@@ -17,7 +17,7 @@ pub struct Vec2 {
 
 pub fn dot(a: Vec2, b: Vec2) -> i64
     requires { BothModerate a b }
-    ensures { result ≡ dotZ a b }
+    ensures { result ≡ dot_z a b }
 {
     let ax = a.x;
     let ay = a.y;
@@ -28,7 +28,7 @@ pub fn dot(a: Vec2, b: Vec2) -> i64
 
 pub fn plus(a: Vec2, b: Vec2) -> Vec2
     requires { BothModerate a b }
-    ensures { result ≡ plusZ a b }
+    ensures { result ≡ plus_z a b }
 {
     let ax = a.x;
     let ay = a.y;
@@ -42,7 +42,7 @@ pub fn plus(a: Vec2, b: Vec2) -> Vec2
 
 pub fn minus(a: Vec2, b: Vec2) -> Vec2
     requires { BothModerate a b }
-    ensures { result ≡ minusZ a b }
+    ensures { result ≡ minus_z a b }
 {
     let ax = a.x;
     let ay = a.y;

@@ -1,7 +1,7 @@
 // What the points that cross a station make of its cell.
 ghost use Rattle.std.specs.Prelude.{◌≡◌, ◌||◌, take};
 ghost use Rattle.reaches.specs.Coordinates.{points_of};
-ghost use Rattle.reaches.specs.Crossing.{ahead_of, reach_of, crosses, smaller as smallerZ, greater as greaterZ, crossed_by, crossed_from};
+ghost use Rattle.reaches.specs.Crossing.{ahead_of, reach_of, crosses, smaller as smaller_z, greater as greater_z, crossed_by, crossed_from};
 ghost use Rattle.reaches.specs.Far.{PairMoves, PairAt, pair_crosses};
 ghost use Rattle.reaches.specs.Inner.{Measurable, Movable, Numbered, AllMoves};
 
@@ -55,13 +55,13 @@ fn crosses_station(s: Station, old: Vec2, new: Vec2) -> bool
 }
 
 fn smaller(a: i32, b: i32) -> i32
-    ensures { result ≡ smallerZ a b }
+    ensures { result ≡ smaller_z a b }
 {
     if a <= b { a } else { b }
 }
 
 fn greater(a: i32, b: i32) -> i32
-    ensures { result ≡ greaterZ a b }
+    ensures { result ≡ greater_z a b }
 {
     if a <= b { b } else { a }
 }

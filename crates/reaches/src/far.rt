@@ -1,7 +1,7 @@
 // Which stations lie too far from the rig for any of its points to cross them: one product tells, in place of one for each point.
 ghost use Rattle.std.specs.Prelude.{◌≡◌, pos, nat_abs};
-ghost use Rattle.reaches.specs.Crossing.{greater as greaterZ};
-ghost use Rattle.reaches.specs.Far.{apart as apartZ, far_off, Spread, PairSpread, Sized, BothSized, AllSized, PairsSized, Measured};
+ghost use Rattle.reaches.specs.Crossing.{greater as greater_z};
+ghost use Rattle.reaches.specs.Far.{apart as apart_z, far_off, Spread, PairSpread, Sized, BothSized, AllSized, PairsSized, Measured};
 
 use marks::POINT_CAPACITY;
 use path::Station;
@@ -17,7 +17,7 @@ fn size(z: i64) -> i64
 // How far apart two points lie, east and north together.
 fn apart(a: Vec2, b: Vec2) -> i64
     requires { BothSized a b }
-    ensures { result ≡ apartZ a b }
+    ensures { result ≡ apart_z a b }
 {
     let ax = a.x;
     let ay = a.y;
@@ -27,7 +27,7 @@ fn apart(a: Vec2, b: Vec2) -> i64
 }
 
 fn greater(a: i64, b: i64) -> i64
-    ensures { result ≡ greaterZ a b }
+    ensures { result ≡ greater_z a b }
 {
     if a <= b { b } else { a }
 }

@@ -6,7 +6,7 @@ ghost use Rattle.path.specs.Laying.{path_runs};
 ghost use Rattle.reaches.specs.Cells.{reach_runs, cleared};
 ghost use Rattle.reaches.specs.Coordinates.{points_of};
 ghost use Rattle.reaches.specs.Crossing.{crossed_station, crossed};
-ghost use Rattle.reaches.specs.Widest.{place_of, wider as widerOf, considered as consideredOf, widest_among, widest_lent, widest_answer, WidestPlace};
+ghost use Rattle.reaches.specs.Widest.{place_of, wider as wider_of, considered as considered_of, widest_among, widest_lent, widest_answer, WidestPlace};
 ghost use Rattle.walk.specs.Drawn.{view};
 ghost use Rattle.marks.specs.Requires.{HavePlaces};
 ghost use Rattle.reaches.specs.Inner.{Room, Searchable, Enterable, Crossable};
@@ -188,7 +188,7 @@ fn place_of(i: usize, c: Cell) -> Place
 
 // A place against the best so far: only a greater width beats it.
 fn wider(p: Place, best: Best) -> Best
-    ensures { result ≡ widerOf p best }
+    ensures { result ≡ wider_of p best }
 {
     match best {
         Best::Nothing => Best::Found(p),
@@ -204,7 +204,7 @@ fn wider(p: Place, best: Best) -> Best
 // A station against the best so far; only one that as many points have crossed as the rig has counts.
 fn considered(count: usize, i: usize, c: Cell, best: Best) -> Best
     requires { HavePlaces count }
-    ensures { result ≡ consideredOf count i c best }
+    ensures { result ≡ considered_of count i c best }
 {
     if marks::all_set(count, c.mark) {
         return wider(place_of(i, c), best);

@@ -3,7 +3,7 @@
 
 ghost use Rattle.std.specs.Prelude.{◌≡◌};
 ghost use Rattle.plane.specs.Vector.{right_normal, Moderate};
-ghost use Rattle.touching.specs.Touch.{ranges_meet, overlap as overlapZ, touches as touchesZ, Sighted, Touchable, TouchRule};
+ghost use Rattle.touching.specs.Touch.{ranges_meet, overlap as overlap_z, touches as touches_z, Sighted, Touchable, TouchRule};
 
 use plane::Vec2;
 
@@ -26,7 +26,7 @@ fn right_normal(v: Vec2) -> Vec2
 // Whether the segments ab and cd overlap, seen along m.
 fn overlap(m: Vec2, a: Vec2, b: Vec2, c: Vec2, d: Vec2) -> bool
     requires { Sighted m a b c d }
-    ensures { result ≡ overlapZ m a b c d }
+    ensures { result ≡ overlap_z m a b c d }
 {
     let p = plane::dot(m, a);
     let q = plane::dot(m, b);
@@ -38,7 +38,7 @@ fn overlap(m: Vec2, a: Vec2, b: Vec2, c: Vec2, d: Vec2) -> bool
 // The test itself, by products.
 fn touches_near(a: Vec2, b: Vec2, c: Vec2, d: Vec2) -> bool
     requires { Touchable a b c d }
-    ensures { result ≡ touchesZ a b c d }
+    ensures { result ≡ touches_z a b c d }
 {
     let across_ab = right_normal(plane::minus(b, a));
     let across_cd = right_normal(plane::minus(d, c));
@@ -53,7 +53,7 @@ fn touches_near(a: Vec2, b: Vec2, c: Vec2, d: Vec2) -> bool
 // Comparisons alone tell of most segments that lie apart: no product is made for them.
 pub fn touches(a: Vec2, b: Vec2, c: Vec2, d: Vec2) -> bool
     requires { Touchable a b c d }
-    ensures { result ≡ touchesZ a b c d }
+    ensures { result ≡ touches_z a b c d }
 {
     let ax = a.x;
     let ay = a.y;

@@ -2,7 +2,7 @@
 // The counter terminals multiply only two numbers of 32 bits in one go (02, N2), so `product` holds the only multiplication, and all others are put together from it.
 ghost use Rattle.std.specs.Prelude.{◌≡◌, ◌*◌, nat_abs, ◌-ℤ◌, ◌*ℤ◌};
 ghost use Rattle.exact.specs.Size.{Within};
-ghost use Rattle.plane.specs.Vector.{dot as dotZ};
+ghost use Rattle.plane.specs.Vector.{dot as dot_z};
 ghost use Rattle.unit.specs.Turn.{mirrored, Mirrorable};
 ghost use Rattle.unit.specs.Products.{long_most, LongProduct, SizeOfProduct, ShortFactors, LongFactors, Dotted, Imaged};
 
@@ -68,7 +68,7 @@ fn long_times(a: i64, b: i64) -> i64
 // a · b by short products, where `plane::dot` has wide ones.
 fn dot(a: Vec2, b: Vec2) -> i64
     requires { Dotted a b }
-    ensures { result ≡ dotZ a b }
+    ensures { result ≡ dot_z a b }
 {
     let ax = a.x;
     let ay = a.y;

@@ -59,7 +59,7 @@ pub record FoldReady (a : VehicleUnit) (ahead : Vec2) (u : VehicleUnit) (d : Vec
   pub unit : UnitDrawn u d
 
 -- what one unit's turn asks
-pub record TurnReady (behindOne : Bool) (a u : VehicleUnit) (ahead d old new : Vec2) : Type 0 where
+pub record TurnReady (behind_one : Bool) (a u : VehicleUnit) (ahead d old new : Vec2) : Type 0 where
   pub unit : UnitDrawn u d
   pub lead : UnitDrawn a ahead
   pub from : Placed old

@@ -24,7 +24,7 @@ pub data Row : Type 0 where
   path_turned : (g : Vec2) (s : ℕ) (r : ℤ) (answer : PathTurn) → Row
   unit_turned : (d : Vec2) (l : ℕ) (f : Vec2) (answer : UnitTurn) → Row
   settled : (v : Vec2) (k : ℤ) (answer : Vec2) → Row
-  folded : (ahead d : Vec2) (limit : ℤ) (answer : Outcome) (other : Vec2) (otherAnswer : Outcome) → Row
+  folded : (ahead d : Vec2) (limit : ℤ) (answer : Outcome) (other : Vec2) (other_answer : Outcome) → Row
 
 -- what a row says: the definition that the contracts cite gives the answer
 abbrev pub Holds : Row → Type 0
@@ -34,7 +34,7 @@ Holds (signed_read bytes answer) = signed_number bytes 0 ≡ answer
 Holds (path_turned g s r answer) = path_turn g s r ≡ answer
 Holds (unit_turned d l f answer) = unit_turn d f l ≡ answer
 Holds (settled v k answer) = settle_z v k ≡ answer
-Holds (folded ahead d limit answer other otherAnswer) = FoldAnswer ahead d limit answer × FoldAnswer ahead other limit otherAnswer
+Holds (folded ahead d limit answer other other_answer) = FoldAnswer ahead d limit answer × FoldAnswer ahead other limit other_answer
 
 -- the heading and the move that a path turn answers
 abbrev pub turned_to : Vec2 → Vec2 → PathTurn
