@@ -5,7 +5,8 @@ where they were in camel case or joined by dashes. Types and modules keep their 
     respell.py           rewrite crates/*/{specs,proofs,src,must-fail} in place
     respell.py --map     print each old name with its new one, and write nothing
 
-It was run once, right after the kit's own port.py, over what that left.
+It was run once, right after the kit's own port.py, over what that left; words of comments that share a lemma's name with a dash were
+mended by hand. Since then it does by itself what was done by hand besides: aliases, and capitals that follow one another.
 """
 import re
 import sys
@@ -15,6 +16,9 @@ ROOT = Path(__file__).resolve().parent.parent
 LETTER = r"[^\s(){}\[\],;.@\"`λ⌜⌝]"
 TOKEN = re.compile(rf"{LETTER}+")
 DEFINED = re.compile(rf"^\s*(?:(?:abbrev|unfoldable|pub|opaque|private|foldable)\s+)*({LETTER}+)\s+:\s", re.M)
+ALIASED = re.compile(r"\bas ([a-z]\w*[A-Z]\w*)")
+# Variables of definitions, which no pattern tells from what they are given.
+VARIABLES = {"behindOne", "otherAnswer"}
 USED = re.compile(r"^\s*(?:pub )?(?:ghost )?use ([^\s{]+?)(?:\.\{([^}]*)\})?(?: as [^\s;]+)?;?$", re.M)
 ALIAS = re.compile(r"^use (\w+)\.(\w+)[^\s{]* as ([\w'-]+)$", re.M)
 # What a check asks for by name in a walk of the code: the goals keep their names until their answers are turned.
@@ -23,9 +27,8 @@ GOAL = re.compile(rf"^({LETTER}+) : (?:\(?tie\.|.*\btie\.Need-)", re.M)
 
 def snake(name):
     """A name in snake case: a capital inside a word begins a new one, a dash joins no two words."""
-    words = re.sub(r"(?<=[a-z0-9])([A-Z])(?![A-Z0-9]*$)", lambda m: "_" + m[1].lower(), name)
-    words = re.sub(r"(?<=[a-z0-9])([A-Z]+)$", lambda m: "_" + m[1].lower(), words)
-    return re.sub(r"(?<=[\w'])-(?=[\w'])", "_", words)
+    words = re.sub(r"(?<=[a-z0-9])(?=[A-Z])|(?<=[A-Z])(?=[A-Z][a-z])", "_", name)
+    return re.sub(r"(?<=[\w'])-(?=[\w'])", "_", re.sub(r"[A-Z]", lambda m: m[0].lower(), words))
 
 
 def files():
@@ -82,8 +85,10 @@ def main():
             if path[0] == "Rattle" and len(path) > 1 and path[1] in crates:
                 continue
             theirs |= {w.split(" as ")[0].strip() for w in (m[2] or "").split(",")}
+        if "proofs" not in p.parts:
+            own |= set(ALIASED.findall(bare))
         if p.suffix == ".antt":
-            own |= set(DEFINED.findall(bare))
+            own |= set(DEFINED.findall(bare)) | VARIABLES
             goals |= set(GOAL.findall(text))
     turned = names(own, theirs | goals, tokens)
     if "--map" in sys.argv:
