@@ -235,6 +235,9 @@ def kerb_cases(program, folder):
     for at, (job, geometry, text) in enumerate([*table_inputs(lines), *long_files(worked)]):
         yield kerb_case(program, folder, at, job, geometry, text)
     yield from kerb_failures(program, file, worked)
+    unnamed = os.path.join(os.fsencode(folder), b"\xff.wkb")
+    shutil.copyfile(file, unnamed)
+    yield "a name that is no text", lambda: from_file([program, unnamed], worked), (b"", b"kerb: the kerb's file cannot be opened\n")
     yield from input_cases([program, file], lambda data: printed(data, file.read_bytes()), longest_of(table_jobs()))
 
 
