@@ -1,27 +1,24 @@
 -- What each answer of the code says, case by case, as a reading.
-use Rattle.std.specs.Prelude.{ℕ, ℤ}
+use Rattle.std.specs.Prelude.{ℕ, Result, Ok, Err}
+use Rattle.refusal.specs.Numbers.{number_of}
+use Rattle.refusal.specs.declared.Refusal.{Refusal}
 use Rattle.number.specs.Read.{Read, got, refused}
-use Rattle.number.specs.declared.Refusal.{Refusal}
-use Rattle.number.specs.declared.Number.{Number}
-use Rattle.number.specs.declared.Number.TheVariants as N
-use Rattle.number.specs.declared.Signed.{Signed}
-use Rattle.number.specs.declared.Signed.TheVariants as S
-use Rattle.number.specs.declared.Groups.{Groups}
-use Rattle.number.specs.declared.Groups.TheVariants as G
+use Rattle.number.specs.declared.Cursor.{Cursor}
+use Rattle.number.specs.declared.FieldFault.{FieldFault}
+use Rattle.number.specs.declared.FieldFault.TheVariants.{Ended, NotShortest, NotAllowed}
+use Rattle.number.specs.declared.Misread.{Misread}
 
-abbrev pub as_number : Number → Read ℕ
-as_number (N.Value v c) = got v c.at
-as_number (N.Refused n p) = refused n p
+-- the number of a field's fault; what is not allowed has the number of the field that it stands in
+abbrev pub fault_number : ℕ → FieldFault → ℕ
+fault_number own Ended = 1
+fault_number own NotShortest = 2
+fault_number own NotAllowed = own
 
-abbrev pub as_signed : Signed → Read ℤ
-as_signed (S.Value z c) = got z c.at
-as_signed (S.Refused n p) = refused n p
+abbrev pub as_read : {A : Type 0} → ℕ → Result (A × Cursor) Misread → Read A
+as_read own (Ok (v, c)) = got v c.at
+as_read own (Err r) = refused (fault_number own r.fault) r.place
 
-abbrev pub as_groups : Groups → Read ℕ
-as_groups (G.Whole v e) = got v e
-as_groups (G.Refused n p) = refused n p
-
--- the refusal of a reading; zeros where it has none
-abbrev pub refusal_of : {A : Type 0} → Read A → Refusal
-refusal_of (got a e) = record { number = 0; place = 0 }
-refusal_of (refused n p) = record { number = n; place = p }
+-- the same where a fault has been named
+abbrev pub as_part : {A : Type 0} → Result (A × Cursor) Refusal → Read A
+as_part (Ok (v, c)) = got v c.at
+as_part (Err r) = refused (number_of r.fault) r.place

@@ -1,146 +1,113 @@
 // Whole numbers in seven-bit groups, lowest group first: read at a cursor, written into a lent run.
 #![tactic(auto)]
 
-ghost use Rattle.std.specs.Prelude.{◌≡◌, ◌+◌, length, nat_abs};
+ghost use Rattle.std.specs.Prelude.{◌≡◌, ◌+◌, ℕ, length, nat_abs};
 ghost use Rattle.std.proofs.lemmas.List.Edits.{sets};
+ghost use Rattle.refusal.specs.Numbers.{number_of};
 ghost use Rattle.number.specs.Number.{groups, read_number, write_number};
 ghost use Rattle.number.specs.Signed.{field_of, signed_of};
 ghost use Rattle.number.specs.Field.{within, size_at_most, signed_number, field, signed_field};
-ghost use Rattle.number.specs.Answers.{as_groups, as_number, as_signed, refusal_of};
+ghost use Rattle.number.specs.Answers.{fault_number, as_read, as_part};
 ghost use Rattle.number.specs.Inner.{GroupsLeft, Room};
 
+use refusal::{Fault, Refusal};
+
 // Where reading goes on.
-#[derive(Clone, Copy)]
+#[derive(Clone, Copy, PartialEq, Eq)]
 pub struct Cursor {
     pub at: usize,
 }
 
-// A number with the cursor after it, or a refusal's number and place.
-#[derive(Clone, Copy)]
-pub enum Number {
-    Value(u32, Cursor),
-    Refused(u8, usize),
+// Why a field is turned down: its bytes end before it does; it is not in shortest form, over five groups or too large; or what it holds is not allowed there.
+#[derive(Clone, Copy, PartialEq, Eq)]
+pub enum FieldFault {
+    Ended,
+    NotShortest,
+    NotAllowed,
 }
 
-// The same of a signed field.
-#[derive(Clone, Copy)]
-pub enum Signed {
-    Value(i32, Cursor),
-    Refused(u8, usize),
+// Why a field is turned down, and where it starts.
+#[derive(Clone, Copy, PartialEq, Eq)]
+pub struct Misread {
+    pub fault: FieldFault,
+    pub place: usize,
+}
+
+impl FieldFault {
+    // The fault of the field that starts at a place.
+    fn at(self, place: usize) -> Misread
+        ensures { result ≡ record { fault = self; place = place } }
+    {
+        Misread { fault: self, place }
+    }
+}
+
+impl Misread {
+    // The same as people are told it: what is not allowed has a fault of its own, by the field that it stands in.
+    fn named(self, own: Fault) -> Refusal
+        ensures { (result.place ≡ self.place) × (number_of result.fault ≡ fault_number (number_of own) self.fault) }
+    {
+        match self.fault {
+            FieldFault::Ended => Fault::Ended.at(self.place),
+            FieldFault::NotShortest => Fault::NotShortest.at(self.place),
+            FieldFault::NotAllowed => own.at(self.place),
+        }
+    }
 }
 
 // What a field may hold.
-#[derive(Clone, Copy)]
+#[derive(Clone, Copy, PartialEq, Eq)]
 pub struct Range {
     pub least: u32,
     pub most: u32,
 }
 
-// A run of groups: what it comes to and the position after it, or a refusal's number and place.
-#[derive(Clone, Copy)]
-pub enum Groups {
-    Whole(u64, usize),
-    Refused(u8, usize),
-}
-
-// A refusal's number and place.
-#[derive(Clone, Copy)]
-pub struct Refusal {
-    pub number: u8,
-    pub place: usize,
-}
-
-// The refusal that an answer holds; zeros where it holds a value.
-pub fn number_refusal(a: Number) -> Refusal
-    ensures { result ≡ refusal_of (as_number a) }
-{
-    let Number::Refused(number, place) = a else {
-        return Refusal {
-            number: 0,
-            place: 0,
-        };
-    };
-    Refusal { number, place }
-}
-
-pub fn signed_refusal(a: Signed) -> Refusal
-    ensures { result ≡ refusal_of (as_signed a) }
-{
-    let Signed::Refused(number, place) = a else {
-        return Refusal {
-            number: 0,
-            place: 0,
-        };
-    };
-    Refusal { number, place }
-}
-
-fn groups_refusal(a: Groups) -> Refusal
-    ensures { result ≡ refusal_of (as_groups a) }
-{
-    let Groups::Refused(number, place) = a else {
-        return Refusal {
-            number: 0,
-            place: 0,
-        };
-    };
-    Refusal { number, place }
-}
-
-// At most `left` groups of the field that starts at `from`.
-fn read_groups(s: &[u8], from: usize, at: usize, left: u32) -> Groups
+// At most `left` groups of the field that starts at `from`: what they come to, with the cursor after them.
+fn read_groups(s: &[u8], from: usize, c: Cursor, left: u32) -> Result<(u64, Cursor), Misread>
     requires { GroupsLeft left }
-    ensures { as_groups result ≡ groups from left s.now at }
+    ensures { (own : ℕ) → as_read own result ≡ groups from left s.now c.at }
 {
     if left == 0 {
-        return Groups::Refused(2, from);
+        return Err(FieldFault::NotShortest.at(from));
     }
-    if s.len() <= at {
-        return Groups::Refused(1, from);
+    if s.len() <= c.at {
+        return Err(FieldFault::Ended.at(from));
     }
-    let b = s[at] as u64;
-    if b < 128 {
-        return Groups::Whole(b, at + 1);
+    let group = u64::from(s[c.at]);
+    let after = Cursor { at: c.at + 1 };
+    if group < 128 {
+        return Ok((group, after));
     }
-    let rest = read_groups(s, from, at + 1, left - 1);
-    let Groups::Whole(v, next) = rest else {
-        return rest;
-    };
-    if v == 0 {
-        return Groups::Refused(2, from);
+    let (rest, next) = read_groups(s, from, after, left - 1)?;
+    if rest == 0 {
+        return Err(FieldFault::NotShortest.at(from));
     }
-    Groups::Whole(b % 128 + 128 * v, next)
+    Ok((group % 128 + 128 * rest, next))
 }
 
 // The number at a cursor.
-pub fn read(s: &[u8], c: Cursor) -> Number
-    ensures { as_number result ≡ read_number s.now c.at }
+pub fn read(s: &[u8], c: Cursor) -> Result<(u32, Cursor), Misread>
+    ensures { (own : ℕ) → as_read own result ≡ read_number s.now c.at }
 {
-    let at = c.at;
-    let g = read_groups(s, at, at, 5);
-    let Groups::Whole(v, next) = g else {
-        let w = groups_refusal(g);
-        return Number::Refused(w.number, w.place);
-    };
-    if v < 4294967296 {
-        return Number::Value(v as u32, Cursor { at: next });
+    let (v, next) = read_groups(s, c.at, c, 5)?;
+    match u32::try_from(v) {
+        Ok(value) => Ok((value, next)),
+        Err(_) => Err(FieldFault::NotShortest.at(c.at)),
     }
-    Number::Refused(2, at)
 }
 
-// A number in a range, else refused by the fault's number.
-pub fn read_within(s: &[u8], c: Cursor, fault: u8, range: Range) -> Number
-    ensures { as_number result ≡ field fault (within range) s.now c.at }
+// A number in a range.
+pub fn read_within(s: &[u8], c: Cursor, range: Range) -> Result<(u32, Cursor), Misread>
+    ensures { (own : ℕ) → as_read own result ≡ field own (within range) s.now c.at }
 {
-    let at = c.at;
     let a = read(s, c);
-    let Number::Value(v, _) = a else {
+    let Ok((v, _)) = a else {
         return a;
     };
     if is_within(range, v) {
         return a;
     }
-    Number::Refused(fault, at)
+    Err(FieldFault::NotAllowed.at(c.at))
 }
 
 pub fn is_within(range: Range, v: u32) -> bool
@@ -172,35 +139,36 @@ pub fn field_of(z: i32) -> u32
 pub fn size_of(z: i32) -> u32
     ensures { result ≡ nat_abs z }
 {
-    let x = field_of(z);
-    x / 2 + x % 2
+    z.unsigned_abs()
 }
 
 // The signed number at a cursor.
-pub fn read_signed(s: &[u8], c: Cursor) -> Signed
-    ensures { as_signed result ≡ signed_number s.now c.at }
+pub fn read_signed(s: &[u8], c: Cursor) -> Result<(i32, Cursor), Misread>
+    ensures { (own : ℕ) → as_read own result ≡ signed_number s.now c.at }
 {
-    let a = read(s, c);
-    let Number::Value(v, next) = a else {
-        let w = number_refusal(a);
-        return Signed::Refused(w.number, w.place);
-    };
-    Signed::Value(signed_of(v), next)
+    let (v, next) = read(s, c)?;
+    Ok((signed_of(v), next))
 }
 
-// A signed number whose size is at most `most`, else refused by the fault's number.
-pub fn read_sized(s: &[u8], c: Cursor, fault: u8, most: u32) -> Signed
-    ensures { as_signed result ≡ signed_field fault (size_at_most most) s.now c.at }
+// A signed number whose size is at most `most`.
+pub fn read_sized(s: &[u8], c: Cursor, most: u32) -> Result<(i32, Cursor), Misread>
+    ensures { (own : ℕ) → as_read own result ≡ signed_field own (size_at_most most) s.now c.at }
 {
-    let at = c.at;
     let a = read_signed(s, c);
-    let Signed::Value(z, _) = a else {
+    let Ok((z, _)) = a else {
         return a;
     };
     if size_of(z) <= most {
         return a;
     }
-    Signed::Refused(fault, at)
+    Err(FieldFault::NotAllowed.at(c.at))
+}
+
+// A field as people are told of it: what is not allowed there has a fault of its own.
+pub fn named<T>(field: Result<(T, Cursor), Misread>, own: Fault) -> Result<(T, Cursor), Refusal>
+    ensures { as_part result ≡ as_read (number_of own) field }
+{
+    field.map_err(|misread| misread.named(own))
 }
 
 // Writes a number at a position of the run, and answers the position after it.
@@ -208,6 +176,7 @@ pub fn write(run: &mut [u8], at: usize, x: u32) -> usize
     requires { Room (write_number x) at (length run.old) }
     ensures { (result ≡ at + length (write_number x)) × (run.new ≡ sets run.old at (write_number x)) }
 {
+    // Kept: how many groups there are is known only once they are written.
     let mut i = at;
     let mut y = x;
     while 128 <= y {
