@@ -9,7 +9,6 @@ use Rattle.exact.proofs.NearestLaws.{nearest_low, nearest_high}
 use Rattle.plane.specs.declared.Vec2.{Vec2}
 use Rattle.plane.specs.Vector.{dot, norm_sq, right_normal, nearest_v}
 use Rattle.plane.specs.Length.{Near}
-use Rattle.plane.specs.Settle.{settle_z}
 use Rattle.plane.specs.Drawn.{drawn, Drawable, Turned, Kept, DrawnRule}
 use Rattle.plane.proofs.SettleSizes.{twice_square_positive}
 use Rattle.plane.proofs.Rounded.{error, rounded_near}

@@ -2,17 +2,19 @@
 use mathlib.Core.Path.{◌≡◌, refl, sym, ◌∙◌}
 use mathlib.Core.List.{List, [], ◌∷◌}
 use mathlib.Core.Bool.{Bool, true, false, ◌&&◌}
-use lib.Dec.{T}
-use lib.IntN.{ℤ, pos, neg_ℤ, ◌+ℤ◌, ◌-ℤ◌, ◌*ℤ◌}
+use Prim.Native.Nat.{ℕ, ◌*◌, ◌≤◌}
+use native.Mathlib.Omega.{arith}
+use lib.Dec.{T, leb, le→leb, leb→le}
+use lib.IntN.{ℤ, pos, negsuc, nat_abs, neg_ℤ, ◌+ℤ◌, ◌-ℤ◌, ◌*ℤ◌}
 use lib.Signed.{◌≤ℤ◌, le_z}
 use Rattle.exact.specs.Size.{Within}
-use Rattle.exact.proofs.Polynomial.{Expr, ◌⊕◌, ◌⊖◌, ◌⊗◌, neg, lit, var, and_left, and_right}
+use Rattle.exact.proofs.Polynomial.{◌⊕◌, ◌⊖◌, ◌⊗◌, neg, lit, var, and_left, and_right}
 use Rattle.exact.proofs.Order.{by_contradiction, of_true}
 use Rattle.exact.proofs.Certificate.{◌⊞◌, ◌⊠◌, ◌·◌, num, sq, hyp, le, never}
-use Rattle.exact.proofs.Sizes.{within}
+use Rattle.exact.proofs.Sizes.{within, ≤-size, ≥-size}
 use Rattle.plane.specs.declared.Vec2.{Vec2}
-use Rattle.plane.specs.Vector.{norm_sq}
-use Rattle.plane.specs.Length.{has_length, Near, Nominal}
+use Rattle.plane.specs.Vector.{norm_sq, Moderate, BothModerate}
+use Rattle.plane.specs.Length.{in_box, has_length, Near, Nominal}
 
 -- a test that holds, and the record it decides
 pub near_of : (v : Vec2) (k : ℤ) → has_length v k ≡ true → Near v k (pos 2 *ℤ k)
@@ -23,7 +25,7 @@ near_of v k e =
     let t : T (a && b) = of_true e in
     record { low = record { le = and_left a b t }; high = record { le = and_right a b t } }
 
-is_true : {b : Bool} → T b → b ≡ true
+pub is_true : {b : Bool} → T b → b ≡ true
 is_true {b = true} t = refl
 is_true {b = false} t = absurd t
 
@@ -56,48 +58,76 @@ coordinates x y k k0 h = (below x y h, coordinate-≤ x y k k0 h, below y x (swa
         let mirrored = le {ρ = ρ} (neg (var 0) ⊗ neg (var 0) ⊕ var 1 ⊗ var 1) (var 2 ⊗ var 2 ⊕ lit 2 ⊗ var 2) (hyp (var 0 ⊗ var 0 ⊕ var 1 ⊗ var 1) (var 2 ⊗ var 2 ⊕ lit 2 ⊗ var 2) h) tt in
         le {ρ = ρ} (neg (var 2)) (var 0) (hyp (neg (var 0)) (var 2) (coordinate-≤ (neg_ℤ x) y k k0 mirrored)) tt
 
--- the code's test of the coordinates before it squares them
-abbrev pub box : ℤ → ℤ → ℤ → Bool
-box x y k = ((le_z (pos 0 -ℤ k) x && le_z x k) && le_z (pos 0 -ℤ k) y) && le_z y k
+-- the lengths in use are below 2^20
+pub nominal_within : {k : ℤ} → Nominal k → Within 1000000 k
+nominal_within {k} n = within (le {ρ = k ∷ []} (neg (lit 1000000)) (var 0) (hyp (lit 5000) (var 0) n.least ⊞ num 1005000) tt) n.most
 
-minus-≤ : (x k : ℤ) → neg_ℤ k ≤ℤ x → (pos 0 -ℤ k) ≤ℤ x
-minus-≤ x k h = le {ρ = x ∷ k ∷ []} (lit 0 ⊖ var 1) (var 0) (hyp (neg (var 1)) (var 0) h) tt
+-- a vector in the box can be squared
+pub box_moderate : {v : Vec2} {k : ℤ} → Nominal k → in_box v k ≡ true → BothModerate v v
+unfolding in_box
+box_moderate {v} {k} n e =
+    let a = leb (nat_abs v.x) (nat_abs k) in
+    let b = leb (nat_abs v.y) (nat_abs k) in
+    let t : T (a && b) = of_true e in
+    let s = (nominal_within n).size in
+    let m : Moderate v = record {
+      x = record { size = omega (arith, leb→le (nat_abs v.x) (nat_abs k) (and_left a b t), s) };
+      y = record { size = omega (arith, leb→le (nat_abs v.y) (nat_abs k) (and_right a b t), s) };
+    } in
+    record { first = m; second = m }
 
-within_of : (x k : ℤ) → k ≤ℤ pos 1000000 → (pos 0 -ℤ k) ≤ℤ x → x ≤ℤ k → Within 1000000 x
-within_of x k m l h =
-    let ρ : List ℤ = x ∷ k ∷ [] in
-    let M = hyp {ρ = ρ} (var 1) (lit 1000000) m in
-    within (le {ρ = ρ} (neg (lit 1000000)) (var 0) (hyp (lit 0 ⊖ var 1) (var 0) l ⊞ M) tt) (le {ρ = ρ} (var 0) (lit 1000000) (hyp (var 0) (var 1) h ⊞ M) tt)
-
-pub box_within : (x y k : ℤ) → Nominal k → box x y k ≡ true → Within 1000000 x × Within 1000000 y
-box_within x y k n e =
-    let a = le_z (pos 0 -ℤ k) x in
-    let b = le_z x k in
-    let c = le_z (pos 0 -ℤ k) y in
-    let d = le_z y k in
-    let t : T (((a && b) && c) && d) = of_true e in
-    let abc = and_left ((a && b) && c) d t in
-    let ab = and_left (a && b) c abc in (
-      within_of x k n.most (record { le = and_left a b ab }) (record { le = and_right a b ab }),
-      within_of y k n.most (record { le = and_right (a && b) c abc }) (record { le = and_right ((a && b) && c) d t }),
-    )
+within_self : (z k : ℤ) → pos 0 ≤ℤ k → neg_ℤ k ≤ℤ z → z ≤ℤ k → leb (nat_abs z) (nat_abs k) ≡ true
+within_self z (pos k) p l h = is_true (le→leb (nat_abs z) k (within l h).size)
+within_self z (negsuc k) p l h = absurd p.le
 
 -- a short vector lies in the box
-pub in_box : (v : Vec2) (k : ℤ) → Nominal k → norm_sq v ≤ℤ (k *ℤ k +ℤ pos 2 *ℤ k) → box v.x v.y k ≡ true
-in_box v k n h =
+pub short_in_box : (v : Vec2) (k : ℤ) → Nominal k → norm_sq v ≤ℤ (k *ℤ k +ℤ pos 2 *ℤ k) → in_box v k ≡ true
+unfolding in_box
+short_in_box v k n h =
     let k0 = le {ρ = k ∷ []} (lit 0) (var 0) (hyp (lit 5000) (var 0) n.least ⊞ num 5000) tt in
     let s = coordinates v.x v.y k k0 h in
-    let a = le_z (pos 0 -ℤ k) v.x in
-    let b = le_z v.x k in
-    let c = le_z (pos 0 -ℤ k) v.y in
-    let d = le_z v.y k in
-    both ((a && b) && c) d
-    (both (a && b) c (both a b (is_true (minus-≤ v.x k s.0).le) (is_true s.1.le)) (is_true (minus-≤ v.y k s.2).le))
-    (is_true s.3.le)
+    both (leb (nat_abs v.x) (nat_abs k)) (leb (nat_abs v.y) (nat_abs k)) (within_self v.x k k0 s.0 s.1) (within_self v.y k k0 s.2 s.3)
 
-pub outside_box : (v : Vec2) (k : ℤ) → Nominal k → box v.x v.y k ≡ false → has_length v k ≡ false
+pub outside_box : (v : Vec2) (k : ℤ) → Nominal k → in_box v k ≡ false → has_length v k ≡ false
 outside_box v k n e = by (has_length v k) refl
   where
     by : (t : Bool) → has_length v k ≡ t → t ≡ false
-    by true h = sym (in_box v k n (near_of v k h).high) ∙ e
+    by true h = sym (short_in_box v k n (near_of v k h).high) ∙ e
     by false h = refl
+
+-- "differs by at most m" as a size and as two orders
+module _ (n s : ℤ) (m : ℕ) where
+  abbrev orders : Bool
+  orders = le_z (s -ℤ pos m) n && le_z n (s +ℤ pos m)
+
+  to_orders : nat_abs (n -ℤ s) ≤ m → orders ≡ true
+  to_orders h =
+      let ρ : List ℤ = n ∷ s ∷ pos m ∷ [] in
+      let w : Within m (n -ℤ s) = record { size = h } in
+      let low = le {ρ = ρ} (var 1 ⊖ var 2) (var 0) (hyp (neg (var 2)) (var 0 ⊖ var 1) (≥-size w)) tt in
+      let high = le {ρ = ρ} (var 0) (var 1 ⊕ var 2) (hyp (var 0 ⊖ var 1) (var 2) (≤-size w)) tt in
+      both (le_z (s -ℤ pos m) n) (le_z n (s +ℤ pos m)) (is_true low.le) (is_true high.le)
+
+  to_size : orders ≡ true → nat_abs (n -ℤ s) ≤ m
+  to_size e =
+      let ρ : List ℤ = n ∷ s ∷ pos m ∷ [] in
+      let a = le_z (s -ℤ pos m) n in
+      let b = le_z n (s +ℤ pos m) in
+      let t : T (a && b) = of_true e in
+      let l = hyp {ρ = ρ} (var 1 ⊖ var 2) (var 0) (record { le = and_left a b t }) in
+      let h = hyp {ρ = ρ} (var 0) (var 1 ⊕ var 2) (record { le = and_right a b t }) in
+      (within (le {ρ = ρ} (neg (var 2)) (var 0 ⊖ var 1) l tt) (le {ρ = ρ} (var 0 ⊖ var 1) (var 2) h tt)).size
+
+  pub difference : leb (nat_abs (n -ℤ s)) m ≡ orders
+  difference = by (leb (nat_abs (n -ℤ s)) m) orders refl refl
+    where
+      by : (a b : Bool) → leb (nat_abs (n -ℤ s)) m ≡ a → orders ≡ b → a ≡ b
+      by true b p q = sym (to_orders (leb→le (nat_abs (n -ℤ s)) m (of_true p))) ∙ q
+      by false true p q = sym p ∙ is_true (le→leb (nat_abs (n -ℤ s)) m (to_size q))
+      by false false p q = refl
+
+-- the length test as the code has it
+pub length_by_difference : (v : Vec2) (k : ℤ) → Nominal k → leb (nat_abs (norm_sq v -ℤ k *ℤ k)) (2 * nat_abs k) ≡ has_length v k
+unfolding has_length
+length_by_difference v (pos k) n = difference (norm_sq v) (pos k *ℤ pos k) (2 * k)
+length_by_difference v (negsuc k) n = absurd n.least.le

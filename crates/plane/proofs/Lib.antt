@@ -1,5 +1,4 @@
 pub mod Lengths
-pub mod Stores
 pub mod Pairs
 pub mod SettleSizes
 pub mod Rounded

@@ -1,5 +1,5 @@
 -- The coordinates of two moderate vectors are bounded: a's x and y, then b's.
-use mathlib.Core.List.{List, [], ◌∷◌}
+use mathlib.Core.List.{[], ◌∷◌}
 use Rattle.exact.proofs.Machine.{Bounded, none, ◌∷ᵇ◌}
 use Rattle.plane.specs.declared.Vec2.{Vec2}
 use Rattle.plane.specs.Vector.{BothModerate}

@@ -4,7 +4,7 @@ use mathlib.Core.List.{List, [], ◌∷◌}
 use lib.Dec.{lit≤}
 use lib.IntN.{ℤ, pos, neg_ℤ, ◌+ℤ◌, ◌-ℤ◌, ◌*ℤ◌}
 use lib.Signed.{◌≤ℤ◌}
-use Rattle.exact.proofs.Polynomial.{Expr, ◌⊕◌, ◌⊖◌, ◌⊗◌, neg, lit, var, ring}
+use Rattle.exact.proofs.Polynomial.{Expr, ◌⊕◌, ◌⊖◌, ◌⊗◌, neg, lit, var}
 use Rattle.exact.proofs.Order.{pos-≤}
 use Rattle.exact.proofs.Certificate.{NonNeg, ◌⊞◌, ◌⊠◌, ◌·◌, num, sq, hyp, eqn, le, le_scaled, named, positive_mul}
 use Rattle.exact.proofs.NearestLaws.{nearest_low, nearest_high}

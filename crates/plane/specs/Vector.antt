@@ -1,7 +1,7 @@
 -- Vectors of whole numbers (01, "Ticks, axes and rounding"). X points east, Y north; a length is counted in ticks of a tenth of a millimetre.
 use Rattle.std.specs.Prelude.{ℤ, neg_ℤ, ◌+ℤ◌, ◌-ℤ◌, ◌*ℤ◌}
 use Rattle.exact.specs.Size.{Within}
-use Rattle.exact.specs.Nearest.{nearest_z}
+use Rattle.exact.specs.Nearest.{nearest_z, Divisor}
 use Rattle.plane.specs.declared.Vec2.{Vec2}
 
 abbrev pub dot : Vec2 → Vec2 → ℤ
@@ -36,3 +36,9 @@ pub record Moderate (v : Vec2) : Type 0 where
 pub record BothModerate (a b : Vec2) : Type 0 where
   pub first : Moderate a
   pub second : Moderate b
+
+-- what v × n / d asks: the products fit 64 bits with their sign
+pub record Scalable (v : Vec2) (n d : ℤ) : Type 0 where
+  pub x : Within 9223372036854775807 (v.x *ℤ n)
+  pub y : Within 9223372036854775807 (v.y *ℤ n)
+  pub divisor : Divisor d

@@ -3,13 +3,13 @@
 
 ghost use Rattle.std.specs.Prelude.{◌≡◌, pos, length, get_or, set};
 ghost use Rattle.exact.specs.Nearest.{Divisor};
-ghost use Rattle.plane.specs.Vector.{dot as dot_z, plus as plus_z, minus as minus_z, nearest_v, BothModerate};
-ghost use Rattle.plane.specs.Length.{has_length, Nominal};
+ghost use Rattle.plane.specs.Vector.{dot as dot_z, plus as plus_z, minus as minus_z, times, nearest_v, BothModerate, Scalable};
+ghost use Rattle.plane.specs.Length.{in_box, has_length, Nominal};
 ghost use Rattle.plane.specs.Settle.{settle_z, Settleable};
 ghost use Rattle.plane.specs.Drawn.{drawn, Drawable, DrawnRule};
 ghost use Rattle.plane.specs.Run.{Entry, Stored};
 
-#[derive(Clone, Copy)]
+#[derive(Clone, Copy, PartialEq, Eq)]
 pub struct Vec2 {
     pub x: i64,
     pub y: i64,
@@ -19,24 +19,16 @@ pub fn dot(a: Vec2, b: Vec2) -> i64
     requires { BothModerate a b }
     ensures { result ≡ dot_z a b }
 {
-    let ax = a.x;
-    let ay = a.y;
-    let bx = b.x;
-    let by = b.y;
-    ax * bx + ay * by
+    a.x * b.x + a.y * b.y
 }
 
 pub fn plus(a: Vec2, b: Vec2) -> Vec2
     requires { BothModerate a b }
     ensures { result ≡ plus_z a b }
 {
-    let ax = a.x;
-    let ay = a.y;
-    let bx = b.x;
-    let by = b.y;
     Vec2 {
-        x: ax + bx,
-        y: ay + by,
+        x: a.x + b.x,
+        y: a.y + b.y,
     }
 }
 
@@ -44,13 +36,9 @@ pub fn minus(a: Vec2, b: Vec2) -> Vec2
     requires { BothModerate a b }
     ensures { result ≡ minus_z a b }
 {
-    let ax = a.x;
-    let ay = a.y;
-    let bx = b.x;
-    let by = b.y;
     Vec2 {
-        x: ax - bx,
-        y: ay - by,
+        x: a.x - b.x,
+        y: a.y - b.y,
     }
 }
 
@@ -59,9 +47,32 @@ pub fn nearest_vector(v: Vec2, d: i64) -> Vec2
     requires { Divisor d }
     ensures { result ≡ nearest_v v d }
 {
-    let x = exact::nearest(v.x, d);
-    let y = exact::nearest(v.y, d);
-    Vec2 { x, y }
+    Vec2 {
+        x: exact::nearest(v.x, d),
+        y: exact::nearest(v.y, d),
+    }
+}
+
+// v × n / q, nearest by coordinate.
+pub fn scaled(v: Vec2, n: i64, q: i64) -> Vec2
+    requires { Scalable v n q }
+    ensures { result ≡ nearest_v (times v n) q }
+{
+    nearest_vector(
+        Vec2 {
+            x: v.x * n,
+            y: v.y * n,
+        },
+        q,
+    )
+}
+
+// Whether no coordinate of v is larger than k, whatever v and k are.
+pub fn in_box(v: Vec2, k: i64) -> bool
+    ensures { result ≡ in_box v k }
+{
+    let most = k.unsigned_abs();
+    v.x.unsigned_abs() <= most && v.y.unsigned_abs() <= most
 }
 
 // Whether |v|² differs from k² by at most 2k, for any v: a coordinate beyond k is told before it is squared.
@@ -69,16 +80,10 @@ pub fn has_length(v: Vec2, k: i64) -> bool
     requires { Nominal k }
     ensures { result ≡ has_length v k }
 {
-    let x = v.x;
-    let y = v.y;
-    let low = 0 - k;
-    if (low <= x) & (x <= k) & (low <= y) & (y <= k) {
-        let n = x * x + y * y;
-        let kk = k * k;
-        let e = 2 * k;
-        return (kk - e <= n) & (n <= kk + e);
+    if !in_box(v, k) {
+        return false;
     }
-    false
+    dot(v, v).abs_diff(k * k) <= 2 * k.unsigned_abs()
 }
 
 // v, which is nearly k long, settled to length k.
@@ -86,12 +91,8 @@ pub fn settle(v: Vec2, k: i64) -> Vec2
     requires { Settleable v k }
     ensures { result ≡ settle_z v k }
 {
-    let x = v.x;
-    let y = v.y;
-    let kk = k * k;
-    let m = 3 * kk - (x * x + y * y);
-    let scaled = Vec2 { x: x * m, y: y * m };
-    nearest_vector(scaled, 2 * kk)
+    let square = k * k;
+    scaled(v, 3 * square - dot(v, v), 2 * square)
 }
 
 // The exact turn w / q, rounded and settled to length k.
@@ -112,7 +113,7 @@ pub fn get(s: &[i32], i: usize) -> i64
     requires { Entry i (length s.now) }
     ensures { result ≡ get_or s.now i (pos 0) }
 {
-    s[i] as i64
+    i64::from(s[i])
 }
 
 // An entry of a run is set.

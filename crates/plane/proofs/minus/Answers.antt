@@ -1,14 +1,8 @@
 -- `plane::minus` meets its contract.
 use Rattle.exact.proofs.Polynomial.{var, ◌⊖◌}
-use Rattle.exact.proofs.Machine.{fits, held}
+use Rattle.exact.proofs.Machine.{held}
 use Rattle.plane.proofs.Pairs.{pair_bounds}
 use Rattle.plane.proofs.minus.Goals as goal
-
-pub overflow_sub-result : goal.overflow_sub-result
-overflow_sub-result c = fits (pair_bounds c.requires) (var 0 ⊖ var 2) tt
-
-pub overflow_sub-result-2 : goal.overflow_sub-result-2
-overflow_sub-result-2 c = fits (pair_bounds c.requires) (var 1 ⊖ var 3) tt
 
 pub returns : goal.returns
 returns c =
