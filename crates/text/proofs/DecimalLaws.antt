@@ -1,5 +1,5 @@
 -- Laws of decimal text: its cases as equations, its digits by number, its length. Assumes nothing.
-use Prim.Native.Nat.{ℕ, zero, suc, ◌+◌, ◌/◌, ◌%◌, ◌^◌, ◌<◌, ◌≤◌}
+use Prim.Native.Nat.{ℕ, zero, suc, ◌+◌, ◌*◌, ◌/◌, ◌%◌, ◌^◌, ◌<◌, ◌≤◌, max}
 use mathlib.Core.Path.{◌≡◌, refl, sym, ◌∙◌, ap}
 use mathlib.Core.List.{List, [], ◌∷◌, ◌++◌}
 use mathlib.Core.Bool.{Bool, true, false}
@@ -60,8 +60,17 @@ count_one n h = rw (decimal_one n h)
 pub count_more : (n : ℕ) → 10 ≤ n → length (decimal n) ≡ length (decimal (n / 10)) + 1
 count_more n h = rw (decimal_more n h) (omega (arith, length-append (decimal (n / 10)) (digit (n % 10) ∷ [])))
 
-pub some_digit : (n : ℕ) → 1 ≤ length (decimal n)
-some_digit n = either n (λ s. omega (arith, count_one n s)) (λ g. omega (arith, count_more n g))
+ten_power : (k : ℕ) → 1 ≤ 10 ^ k
+ten_power zero = omega arith
+ten_power (suc k) = omega (arith, pow-suc 10 k, ten_power k)
+
+-- a power of ten more, a digit more; 0 counts as 1
+pub count_power : (k n : ℕ) → 10 ^ k ≤ max n 1 → max n 1 < 10 * 10 ^ k → length (decimal n) ≡ k + 1
+count_power zero n h l = count_one n (omega arith)
+count_power (suc k) n h l =
+    let p = pow-suc 10 k in
+    let g : 10 ≤ n = omega (arith, ten_power k) in
+    omega (arith, count_more n g, count_power k (n / 10) (omega (arith, ten_power k)) (omega (arith, ten_power k)))
 
 digits_one : (n : ℕ) → n < 10 → digits 1 n ≡ digit n ∷ []
 unfolding digits

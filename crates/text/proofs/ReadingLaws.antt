@@ -5,32 +5,27 @@ use mathlib.Core.List.{List, [], ◌∷◌, ◌++◌}
 use mathlib.Core.Bool.{Bool, true, false, ◌&&◌}
 use native.Mathlib.Omega.{arith}
 use native.Mathlib.Numerals.{add-one}
-use lib.Dec.{leb}
 use lib.ListN.{length, drop, get_or, length-append, drop_of_length-le}
 use lib.Seq.{drop-cons}
-use borrow.Author.Tests.{leb-true, le-leb, lt-leb}
+use borrow.Author.Tests.{le-leb, lt-leb}
 use Rattle.text.specs.Decimal.{digit, decimal}
 use Rattle.text.specs.Reading.{is_digit, all_digits, value_after, largest, read_if, read_decimal, RoundTrip}
-use Rattle.text.specs.declared.Decimal.{Decimal}
-use Rattle.text.specs.declared.Decimal.TheVariants as D
+use Rattle.std.proofs.Common.{Option, Some, None}
 use Rattle.text.proofs.DecimalLaws.{either, decimal_one, decimal_more}
 
 both : (a b : Bool) → (a && b) ≡ true → (a ≡ true) × (b ≡ true)
 both true b h = (refl, h)
 both false b h = absurd (let z : ◌≡◌ {A = ℕ} 0 1 = cc in omega arith)
 
-pub digit_bounds : (b : ℕ) → is_digit b ≡ true → (48 ≤ b) × (b ≤ 57)
-digit_bounds b h = let t = both (leb 48 b) (leb b 57) h in (leb-true 48 b t.0, leb-true b 57 t.1)
-
 -- what is left of a text, after digits whose value is v
-abbrev rest_of : ℕ → List ℕ → Decimal
+abbrev rest_of : ℕ → List ℕ → Option ℕ
 rest_of v s = read_if (all_digits s) (value_after v s)
 
 rest_digit : (v b : ℕ) (s : List ℕ) → is_digit b ≡ true → rest_of v (b ∷ s) ≡ rest_of (v * 10 + (b - 48)) s
 unfolding all_digits value_after
 rest_digit v b s h = rw h
 
-rest_other : (v b : ℕ) (s : List ℕ) → is_digit b ≡ false → rest_of v (b ∷ s) ≡ D.Unreadable
+rest_other : (v b : ℕ) (s : List ℕ) → is_digit b ≡ false → rest_of v (b ∷ s) ≡ None
 unfolding all_digits
 rest_other v b s h = rw h
 
@@ -39,17 +34,17 @@ unfolding value_after
 grows v [] = omega arith
 grows v (b ∷ s) = omega (arith, grows (v * 10 + (b - 48)) s)
 
-too_large_lem : (b : Bool) (n : ℕ) → largest < n → read_if b n ≡ D.Unreadable
+too_large_lem : (b : Bool) (n : ℕ) → largest < n → read_if b n ≡ None
 too_large_lem true n h = rw (lt-leb n largest h)
 too_large_lem false n h = refl
 
-rest_large : (v : ℕ) (s : List ℕ) → largest < v → rest_of v s ≡ D.Unreadable
+rest_large : (v : ℕ) (s : List ℕ) → largest < v → rest_of v s ≡ None
 rest_large v s h = too_large_lem (all_digits s) (value_after v s) (omega (arith, grows v s))
 
-small_enough : (n : ℕ) → n ≤ largest → read_if true n ≡ D.Number n
+small_enough : (n : ℕ) → n ≤ largest → read_if true n ≡ Some n
 small_enough n h = rw (le-leb n largest h)
 
-rest_end : (v : ℕ) → v ≤ largest → rest_of v [] ≡ D.Number v
+rest_end : (v : ℕ) → v ≤ largest → rest_of v [] ≡ Some v
 unfolding all_digits value_after
 rest_end v h = small_enough v h
 
@@ -59,7 +54,7 @@ pub record Reading (bytes : List ℕ) (value i : ℕ) : Type 0 where
   pub small : value ≤ largest
   pub rest : read_decimal bytes ≡ rest_of value (drop i bytes)
 
-pub read_nothing_lem : (bytes : List ℕ) → length bytes ≡ 0 → read_decimal bytes ≡ D.Unreadable
+pub read_nothing_lem : (bytes : List ℕ) → length bytes ≡ 0 → read_decimal bytes ≡ None
 unfolding read_decimal
 read_nothing_lem [] h = refl
 read_nothing_lem (b ∷ s) h = absurd (omega arith)
@@ -73,19 +68,19 @@ module _ {bytes : List ℕ} {value i : ℕ} (r : Reading bytes value i) where
   abbrev byte : ℕ
   byte = get_or bytes i 0
 
-  pub read_other : i < length bytes → is_digit (get_or bytes i 0) ≡ false → read_decimal bytes ≡ D.Unreadable
+  pub read_other : i < length bytes → is_digit (get_or bytes i 0) ≡ false → read_decimal bytes ≡ None
   read_other h d = r.rest ∙ ap (rest_of value) (drop-cons bytes i 0 h) ∙ rest_other value byte (drop (suc i) bytes) d
 
   one_more : i < length bytes → is_digit (get_or bytes i 0) ≡ true → read_decimal bytes ≡ rest_of (value * 10 + (get_or bytes i 0 - 48)) (drop (suc i) bytes)
   one_more h d = r.rest ∙ ap (rest_of value) (drop-cons bytes i 0 h) ∙ rest_digit value byte (drop (suc i) bytes) d
 
-  pub read_large : i < length bytes → is_digit (get_or bytes i 0) ≡ true → largest < value * 10 + (get_or bytes i 0 - 48) → read_decimal bytes ≡ D.Unreadable
+  pub read_large : i < length bytes → is_digit (get_or bytes i 0) ≡ true → largest < value * 10 + (get_or bytes i 0 - 48) → read_decimal bytes ≡ None
   read_large h d l = one_more h d ∙ rest_large _ (drop (suc i) bytes) l
 
   pub read_next : i < length bytes → is_digit (get_or bytes i 0) ≡ true → value * 10 + (get_or bytes i 0 - 48) ≤ largest → Reading bytes (value * 10 + (get_or bytes i 0 - 48)) (i + 1)
   read_next h d l = record { within = omega arith; small = l; rest = rw (add-one i) (one_more h d) }
 
-  pub read_end_lem : length bytes ≤ i → read_decimal bytes ≡ D.Number value
+  pub read_end_lem : length bytes ≤ i → read_decimal bytes ≡ Some value
   read_end_lem h = r.rest ∙ ap (rest_of value) (drop_of_length-le bytes {i = i} h) ∙ rest_end value r.small
 
 -- what `decimal` writes: digits, whose value is the number

@@ -1,8 +1,6 @@
 -- Numbers read from ASCII text in base ten (N1, the arguments of the program settings): digits only, at least one, zeros in front allowed.
-use Rattle.std.specs.Prelude.{ℕ, ◌+◌, ◌-◌, ◌*◌, ◌<◌, ◌≤◌, ◌≡◌, Bool, true, ◌&&◌, cond, List, [], ◌∷◌, leb}
+use Rattle.std.specs.Prelude.{ℕ, ◌+◌, ◌-◌, ◌*◌, ◌<◌, ◌≤◌, ◌≡◌, Bool, true, ◌&&◌, cond, List, [], ◌∷◌, leb, Option, Some, None}
 use Rattle.text.specs.Decimal.{decimal}
-use Rattle.text.specs.declared.Decimal.{Decimal}
-use Rattle.text.specs.declared.Decimal.TheVariants as D
 
 -- "0" is 48, and "9" is 57
 abbrev pub is_digit : ℕ → Bool
@@ -21,17 +19,17 @@ value_after v (b ∷ s) = value_after (v * 10 + (b - 48)) s
 abbrev pub largest : ℕ
 largest = 4294967295
 
-abbrev pub read_if : Bool → ℕ → Decimal
-read_if digits n = cond (digits && leb n largest) (D.Number n) D.Unreadable
+abbrev pub read_if : Bool → ℕ → Option ℕ
+read_if digits n = cond (digits && leb n largest) (Some n) None
 
 -- no text is no number
-unfoldable pub read_decimal : List ℕ → Decimal
-read_decimal [] = D.Unreadable
+unfoldable pub read_decimal : List ℕ → Option ℕ
+read_decimal [] = None
 read_decimal (b ∷ s) = read_if (all_digits (b ∷ s)) (value_after 0 (b ∷ s))
 
 -- the claim
 pub record RoundTrip : Type 0 where
-  pub read_back : (n : ℕ) → n ≤ largest → read_decimal (decimal n) ≡ D.Number n
-  pub too_large : (n : ℕ) → largest < n → read_decimal (decimal n) ≡ D.Unreadable
+  pub read_back : (n : ℕ) → n ≤ largest → read_decimal (decimal n) ≡ Some n
+  pub too_large : (n : ℕ) → largest < n → read_decimal (decimal n) ≡ None
   -- a zero in front of a text that is not empty
   pub zero_in_front : (b : ℕ) (s : List ℕ) → read_decimal (48 ∷ b ∷ s) ≡ read_decimal (b ∷ s)

@@ -1,9 +1,8 @@
 -- Texts that pin the digits' order, the sign and the characters' codes, those of 01's printed lines and the ends of the machine's numbers among them; and texts that are read, or cannot be.
-use Rattle.std.specs.Prelude.{◌≡◌, [], ◌∷◌, negsuc}
+use Rattle.std.specs.Prelude.{◌≡◌, [], ◌∷◌, negsuc, Some, None}
 use Rattle.text.specs.Ascii.{ascii}
 use Rattle.text.specs.Decimal.{digits, decimal, signed_decimal}
 use Rattle.text.specs.Reading.{read_decimal}
-use Rattle.text.specs.declared.Decimal.TheVariants.{Number, Unreadable}
 
 -- the claim
 pub record WorkedTexts : Type 0 where
@@ -20,10 +19,10 @@ pub record WorkedTexts : Type 0 where
   -- words: letters, a space, a digit and a line feed
   pub words : ascii "at 1\n" ≡ 97 ∷ 116 ∷ 32 ∷ 49 ∷ 10 ∷ []
   -- read: nothing, zero, zeros in front, the largest number and one more, a letter, a sign
-  pub read_nothing : read_decimal (ascii "") ≡ Unreadable
-  pub read_zero : read_decimal (ascii "0") ≡ Number 0
-  pub read_zeros : read_decimal (ascii "007") ≡ Number 7
-  pub read_largest : read_decimal (ascii "4294967295") ≡ Number 4294967295
-  pub read_too_large : read_decimal (ascii "4294967296") ≡ Unreadable
-  pub read_letter : read_decimal (ascii "12a") ≡ Unreadable
-  pub read_sign : read_decimal (ascii "-1") ≡ Unreadable
+  pub read_nothing : read_decimal (ascii "") ≡ None
+  pub read_zero : read_decimal (ascii "0") ≡ Some 0
+  pub read_zeros : read_decimal (ascii "007") ≡ Some 7
+  pub read_largest : read_decimal (ascii "4294967295") ≡ Some 4294967295
+  pub read_too_large : read_decimal (ascii "4294967296") ≡ None
+  pub read_letter : read_decimal (ascii "12a") ≡ None
+  pub read_sign : read_decimal (ascii "-1") ≡ None

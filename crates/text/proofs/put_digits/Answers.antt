@@ -1,20 +1,22 @@
--- `text::put_digits` meets its contract. Assumes nothing.
+-- `text::put_digits` meets its contract: the digits before the place are left to write.
 use native.Mathlib.Omega.{arith}
+use Prim.Native.Nat.{◌+◌, ◌≤◌}
+use lib.ListN.{length}
+use borrow.Author.Rules.{rules}
 use Rattle.text.proofs.DecimalLaws.{digits_length}
 use Rattle.text.proofs.Writing.{fill_start, fill_next, fill_end}
 use Rattle.text.proofs.put_digits.Goals as goal
 
-pub loop-left-init : goal.loop-left-init
-loop-left-init c = fill_start _ _ _ _ c.requires.ends
+pub overflow_step-place : goal.overflow_step-place
+overflow_step-place c =
+    let h : c.args.at + c.args.count ≤ length c.args.run.now = omega (arith, digits_length c.args.count c.args.n, c.requires.ends) in
+    search rules
 
-pub bounds-run-place : goal.bounds-run-place
-bounds-run-place c = omega (arith, c.loop-left.invariant.long, c.loop-left.invariant.most, c.loop-left.invariant.room)
+pub loop-place-init : goal.loop-place-init
+loop-place-init c = fill_start _ _ _ _ c.requires.ends
 
-pub loop-left-preserved : goal.loop-left-preserved
-loop-left-preserved c = fill_next _ _ _ _ _ _ _ c.loop-left-test.true c.loop-left.invariant
-
-pub shape_of-run : goal.shape_of-run
-shape_of-run c = c.loop-left.invariant.long
+pub loop-place-preserved : goal.loop-place-preserved
+loop-place-preserved c = fill_next _ _ _ _ _ _ _ c.loop-place-test.true c.loop-place.invariant
 
 pub returns : goal.returns
-returns c = (rw digits_length, fill_end _ _ _ _ _ _ _ c.loop-left-test.false c.loop-left.invariant)
+returns c = (rw digits_length, fill_end _ _ _ _ _ _ _ (omega arith) c.loop-place.invariant)

@@ -1,59 +1,38 @@
 -- `text::read_decimal` meets its contract: what is left of the text, after the value so far, reads as the whole does.
-use Prim.Native.Nat.{ℕ, ◌-◌}
+use Prim.Native.Nat.{◌+◌, ◌-◌, ◌*◌}
 use mathlib.Core.Path.{◌≡◌, sym, ◌∙◌}
-use mathlib.Core.Bool.{true}
 use native.Mathlib.Omega.{arith}
-use lib.ListN.{get_or}
+use lib.ListN.{length, get_or}
 use borrow.Author.Rules.{rules}
-use Rattle.text.specs.Reading.{is_digit}
-use Rattle.text.proofs.ReadingLaws.{digit_bounds, read_nothing_lem, read_start_lem, read_other, read_large, read_next, read_end_lem}
+use Rattle.text.proofs.ReadingLaws.{read_nothing_lem, read_start_lem, read_other, read_large, read_next, read_end_lem}
 use Rattle.text.proofs.read_decimal.Goals as goal
-use Rattle.text.proofs.read_decimal.Lts as lts
-use Rattle.text.proofs.read_decimal.Reads as reads
-use Rattle.text.proofs.read_decimal.Tie as tie
 
--- the steps of the code that the lemmas below speak of
-abbrev At-loop-i : Type 0
-At-loop-i = lts.At-loop tie.the-claims reads.Pre reads.Post goal.the-invariant-loop-i goal.the-decreases-loop-i
+pub returns-then-is_empty : goal.returns-then-is_empty
+returns-then-is_empty c =
+    let none : length c.args.bytes.now ≡ 0 = search rules in
+    sym (read_nothing_lem _ none)
 
-abbrev Else-not-is_digit : Type 0
-Else-not-is_digit = lts.Else2 tie.the-claims reads.Pre reads.Post goal.the-invariant-loop-i goal.the-decreases-loop-i
+pub loop-b-init : goal.loop-b-init
+loop-b-init c = read_start_lem _ (search rules)
 
--- a byte that is a digit
-module _ (c : Else-not-is_digit) where
-  abbrev loop : At-loop-i
-  loop = c.before.before.before.before
+pub returns-then-not-is_ascii_digit : goal.returns-then-not-is_ascii_digit
+returns-then-not-is_ascii_digit c = sym (read_other c.loop-b.invariant c.loop-b-test.true (sym c.if-not-is_ascii_digit.ensures.value))
 
-  abbrev byte : ℕ
-  byte = get_or loop.args.bytes.now loop.loop-i.i 0
+pub returns-in_err-checked_mul : goal.returns-in_err-checked_mul
+returns-in_err-checked_mul c =
+    let is = sym c.if-not-is_ascii_digit.ensures.value in
+    c.from_residual.ensures ∙ sym (read_large c.loop-b.invariant c.loop-b-test.true is (omega (arith, c.in_err-checked_mul.ensures)))
 
-  is : is_digit byte ≡ true
-  is = sym c.is_digit.ensures ∙ c.if-not-is_digit.false
+pub returns-in_err-value : goal.returns-in_err-value
+returns-in_err-value c =
+    let is = sym c.if-not-is_ascii_digit.ensures.value in
+    c.from_residual-in_err-value.ensures ∙ sym (read_large c.loop-b.invariant c.loop-b-test.true is (omega (arith, c.in_err-value.ensures, c.in_ok-checked_mul.ensures, c.from.ensures)))
 
-pub returns-then-bytes-eq0 : goal.returns-then-bytes-eq0
-returns-then-bytes-eq0 c = sym (read_nothing_lem _ c.if-bytes-eq0.true)
-
-pub loop-i-init : goal.loop-i-init
-loop-i-init c = read_start_lem _ c.if-bytes-eq0.false
-
-pub returns-then-not-is_digit : goal.returns-then-not-is_digit
-returns-then-not-is_digit c = let l = c.before.before.before.before.before in
-    sym (read_other l.loop-i.invariant (search rules) (sym c.is_digit.ensures ∙ c.if-not-is_digit.true))
-
-pub overflow_sub-value : goal.overflow_sub-value
-overflow_sub-value c = (digit_bounds (byte c.before) (is c.before)).0
-
-pub overflow_cast-value : goal.overflow_cast-value
-overflow_cast-value c = omega (arith, digit_bounds (byte c.before) (is c.before))
-
-pub overflow_add-value : goal.overflow_add-value
-overflow_add-value c = omega (arith, digit_bounds (byte c.before) (is c.before), (loop c.before).loop-i.invariant.small)
-
-pub returns-then-value-gt4294967295 : goal.returns-then-value-gt4294967295
-returns-then-value-gt4294967295 c = sym (read_large (loop c.before.before).loop-i.invariant (search rules) (is c.before.before) c.if-value-gt4294967295.true)
-
-pub loop-i-preserved : goal.loop-i-preserved
-loop-i-preserved c = read_next (loop c.before.before).loop-i.invariant (search rules) (is c.before.before) c.if-value-gt4294967295.false
+pub loop-b-preserved : goal.loop-b-preserved
+loop-b-preserved c =
+    let is = sym c.if-not-is_ascii_digit.ensures.value in
+    let e : c.in_ok-value.value ≡ c.loop-b.value * 10 + (get_or c.args.bytes.now c.loop-b.b-index 0 - 48) = omega (arith, c.in_ok-value.ensures, c.in_ok-checked_mul.ensures, c.from.ensures) in
+    rw e (read_next c.loop-b.invariant c.loop-b-test.true is (omega (arith, c.in_ok-value.ensures)))
 
 pub returns : goal.returns
-returns c = sym (read_end_lem c.loop-i.invariant c.loop-i-test.false)
+returns c = sym (read_end_lem c.loop-b.invariant c.loop-b-test.false)
