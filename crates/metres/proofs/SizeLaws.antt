@@ -1,17 +1,18 @@
--- What `size_at_most` says: of the float unit's two tests, of a value as a fraction, and of a rounded product.
+-- What `size_at_most` says: of the float unit's test, of a value as a fraction, and of a rounded product.
 use mathlib.Core.Path.{◌≡◌, refl, sym, ◌∙◌, ap, subst}
 use mathlib.Core.Bool.{Bool, true, false, ◌&&◌, ◌||◌, cond}
-use Prim.Native.Nat.{ℕ, zero, suc, ◌+◌, ◌*◌, ◌^◌, ◌≤◌, ◌<◌}
+use Prim.Native.Nat.{ℕ, zero, suc, ◌+◌, ◌*◌, ◌^◌, ◌≤◌}
 use native.Mathlib.Nat.{mul-one, mul_right_comm, mul-le-mul_right, le_of_mul-le-mul_right, le_trans, le_of_eq}
 use native.Mathlib.Omega.{arith}
 use native.Mathlib.Decide.{dec_le}
 use borrow.Author.Tests.{lt-ltb, le-ltb, le-leb, lt-leb, eq-eqb, ne_eqb}
-use lib.Dec.{T, leb, ltb, eqb, leb→le, lit<}
+use lib.Dec.{T, leb, ltb, leb→le, lit<}
 use lib.IntN.{ℤ, pos}
-use lib.Ieee.{Float, nan, inf, fin, Format, binary64, prec, emax, low, up, down, odd, units, round, mul, le, of_bits, neg}
+use lib.Ieee.{Float, nan, inf, fin, Format, binary64, prec, emax, low, up, down, odd, units, round, mul, le, of_bits}
 use lib.Ieee.Fits.{down_pos, round_is}
 use lib.Ieee.Exact.{HasValue}
 use lib.Ieee.Order.{round_mono}
+use Rattle.std.specs.Float.{float_with_sign}
 use Rattle.metres.specs.Tick.{size_at_most, Sized, ticks_a_metre, metres_most, ticks_most}
 
 -- at most is below or equal, whichever way round the equality q is tested
@@ -23,50 +24,26 @@ at_most a b q same other = by (dec_le b a) (dec_le a b)
     by (yes h) (yes k) = rw (le-ltb a b h, same (omega arith), le-leb a b k)
     by (yes h) (no k) = rw (le-ltb a b h, other (λ e. omega arith), lt-leb a b (omega arith))
 
--- a number against n · 2^k, or its size against it where both are below zero
+-- a number against n · 2^k
 module _ (m : ℕ) (e : ℤ) (n k : ℕ) where
   under : le (fin false m e) (fin false n (pos k)) ≡ leb (m * up e) (n * 2 ^ k * down e)
   unfolding le
   under = at_most (m * up e * 1) (n * 2 ^ k * down e) _ (eq-eqb _ _) (ne_eqb _ _) ∙ ap (λ (a : ℕ). leb a (n * 2 ^ k * down e)) (mul-one (m * up e))
 
-  over : le (fin true n (pos k)) (fin true m e) ≡ leb (m * up e) (n * 2 ^ k * down e)
-  unfolding le
-  over =
-      at_most (m * up e * 1) (n * 2 ^ k * down e) (eqb (n * 2 ^ k * down e) (m * up e * 1)) (λ h. eq-eqb _ _ (sym h)) (λ h. ne_eqb _ _ (λ g. h (sym g)))
-      ∙ ap (λ (a : ℕ). leb a (n * 2 ^ k * down e)) (mul-one (m * up e))
-
 -- 15,000 is 1875 · 2^3
-abbrev limit : Bool → Float
-limit s = fin s 1875 (pos 3)
-
-limit_is : of_bits binary64 0x40cd_4c00_0000_0000 ≡ limit false
+limit_is : of_bits binary64 0x40cd_4c00_0000_0000 ≡ fin false 1875 (pos 3)
 unfolding of_bits
 limit_is = refl
 
--- what is not below zero lies above −15,000, and the other way round
-apart_low : (m : ℕ) (e : ℤ) → le (limit true) (fin false m e) ≡ true
-unfolding le
-apart_low m e = let p : 0 < 15000 * down e + m * up e * 1 = omega (arith, down_pos e) in rw (lt-ltb _ _ p)
-
-apart_high : (m : ℕ) (e : ℤ) → le (fin true m e) (limit false) ≡ true
-unfolding le
-apart_high m e = let p : 0 < m * up e * 1 + 15000 * down e = omega (arith, down_pos e) in rw (lt-ltb _ _ p)
-
-in_limit : (x : Float) → (le (limit true) x && le x (limit false)) ≡ size_at_most metres_most x
-unfolding le size_at_most
+in_limit : (x : Float) → le (float_with_sign false x) (fin false 1875 (pos 3)) ≡ size_at_most metres_most x
+unfolding le size_at_most float_with_sign
 in_limit nan = refl
-in_limit (inf true) = refl
-in_limit (inf false) = refl
-in_limit (fin false m e) = ap (λ (t : Bool). t && le (fin false m e) (limit false)) (apart_low m e) ∙ under m e 1875 3
-in_limit (fin true m e) = ap (λ (t : Bool). le (limit true) (fin true m e) && t) (apart_high m e) ∙ and_true _ ∙ over m e 1875 3
-  where
-    and_true : (t : Bool) → (t && true) ≡ t
-    and_true true = refl
-    and_true false = refl
+in_limit (inf s) = refl
+in_limit (fin s m e) = under m e 1875 3
 
--- the code's two tests, with 15,000 by its bits
-pub within_limit_lem : (x : Float) → (le (neg (of_bits binary64 0x40cd_4c00_0000_0000)) x && le x (of_bits binary64 0x40cd_4c00_0000_0000)) ≡ size_at_most metres_most x
-within_limit_lem x = rw limit_is (unfold neg in in_limit x)
+-- the code's test, with 15,000 by its bits
+pub within_limit_lem : (x : Float) → le (float_with_sign false x) (of_bits binary64 0x40cd_4c00_0000_0000) ≡ size_at_most metres_most x
+within_limit_lem x = rw limit_is (in_limit x)
 
 -- a value a / c of size at most b
 pub value_size : (x : Float) (s : Bool) (a c b : ℕ) → HasValue x s a c → T (size_at_most b x) → a ≤ b * c

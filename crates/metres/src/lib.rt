@@ -1,7 +1,7 @@
 // A kerb's coordinate: eight bytes to a float, and a float's metres to ticks.
 #![tactic(auto)]
 
-ghost use Rattle.std.specs.Prelude.{◌≡◌, length};
+ghost use Rattle.std.specs.Prelude.{◌≡◌, ◌/◌, ◌%◌, ◌^◌, length};
 ghost use Rattle.metres.specs.Bytes.{Bytes, little_endian, metres_at};
 ghost use Rattle.metres.specs.Answers.{as_metres};
 ghost use Rattle.metres.specs.Tick.{metres_most, ticks_most, size_at_most, Sized, nearest_whole, tick_of, VertexWithin, vertex_ticks, TickRule};
@@ -10,12 +10,12 @@ ghost use Rattle.metres.specs.Worked.{WorkedTicks};
 use plane::Vec2;
 
 // The fields of a float's bits: the sign, an exponent below it, and digits below a leading one.
-const SIGN: u64 = 9223372036854775808;
+const SIGN: u64 = 1 << 63;
 
-const LEADING: u64 = 4503599627370496;
+const LEADING: u64 = 1 << 52;
 
 // The exponent that a NaN and the infinities have.
-const NOT_FINITE: u64 = 2047;
+const NOT_FINITE: u64 = 0x7ff;
 
 // The largest size of a coordinate in metres, and how many ticks a metre has.
 const METRES_MOST: f64 = 15000.0;
@@ -29,53 +29,50 @@ pub struct Vertex {
     pub y: f64,
 }
 
-// A coordinate as it was sent.
-#[derive(Clone, Copy)]
-pub enum Metres {
-    Finite(f64),
-    NotFinite,
-}
-
 // The number that n bytes make, lowest first.
 pub fn little_endian(s: &[u8], at: usize, n: usize) -> u64
     requires { Bytes n at (length s.now) }
     ensures { result ≡ little_endian n s.now at }
 {
-    let mut v: u64 = 0;
-    let mut i = n;
-    while 0 < i {
-        i -= 1;
-        v = (s[at + i] as u64) + 256 * v;
-    }
-    v
+    let mut bytes = [0u8; 8];
+    bytes[..n].copy_from_slice(&s[at..at + n]);
+    u64::from_le_bytes(bytes)
 }
 
-// The float that eight bytes hold. The bits are tested first: those of a NaN make no float.
-pub fn read_metres(s: &[u8], at: usize) -> Metres
+// The exponent's field of a float's bits.
+fn exponent_of(bits: u64) -> u64
+    ensures { result ≡ bits % 2 ^ 63 / 2 ^ 52 }
+{
+    bits % SIGN / LEADING
+}
+
+// The float that eight bytes hold, if it is finite. The bits are tested first: those of a NaN make no float.
+pub fn read_metres(s: &[u8], at: usize) -> Option<f64>
     requires { Bytes 8 at (length s.now) }
     ensures { as_metres result ≡ metres_at s.now at }
 {
     let bits = little_endian(s, at, 8);
-    if bits % SIGN / LEADING == NOT_FINITE {
-        return Metres::NotFinite;
+    if exponent_of(bits) == NOT_FINITE {
+        return None;
     }
-    Metres::Finite(f64::from_bits(bits))
+    Some(f64::from_bits(bits))
 }
 
 // Whether a coordinate is no larger than 15,000 m in size.
 pub fn within_limit(x: f64) -> bool
     ensures { result ≡ size_at_most metres_most x }
 {
-    (-METRES_MOST <= x) & (x <= METRES_MOST)
+    x.abs() <= METRES_MOST
 }
 
 // The whole number nearest to p: its digits over a power of two, divided as every figure is.
+// Kept: not `p.round()`, because `exact::nearest` alone decides where a half goes.
 fn nearest_whole(p: f64) -> i64
     requires { Sized ticks_most p }
     ensures { result ≡ nearest_whole p }
 {
-    let bits = f64::to_bits(p);
-    let exponent = bits % SIGN / LEADING;
+    let bits = p.to_bits();
+    let exponent = exponent_of(bits);
     // far below a half, where the power of two would not fit
     if exponent < 1013 {
         return 0;
@@ -102,9 +99,10 @@ pub fn ticks_of(v: Vertex) -> Vec2
     requires { VertexWithin v }
     ensures { result ≡ vertex_ticks v }
 {
-    let x = to_tick(v.x);
-    let y = to_tick(v.y);
-    Vec2 { x, y }
+    Vec2 {
+        x: to_tick(v.x),
+        y: to_tick(v.y),
+    }
 }
 
 // Claim: a tick is the nearest whole number to the rounded product, halves away from zero, and at most 150,000,000 in size.

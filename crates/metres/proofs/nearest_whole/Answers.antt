@@ -1,11 +1,11 @@
 -- `metres::nearest_whole` meets its contract: the digits and the power of two fit, and `Whole` says what their nearest quotient is.
 use mathlib.Core.Path.{◌≡◌, sym, ◌∙◌, ap, ap₂, subst}
-use mathlib.Core.Bool.{true, false}
+use mathlib.Core.Bool.{Bool, true, false}
 use Prim.Native.Nat.{ℕ, ◌+◌, ◌*◌, ◌-◌, ◌%◌, ◌^◌, ◌≤◌, ◌<◌}
 use native.Mathlib.Nat.{one-mul}
 use native.Mathlib.Omega.{arith}
 use borrow.Author.Tests.{le-leb, lt-leb}
-use lib.Dec.{T}
+use lib.Dec.{T, leb}
 use lib.Pow.{pow-lt, pow_pos, shl_exact}
 use lib.IntN.{ℤ, pos, neg_ℤ, ◌-ℤ◌, +ℤ_idl}
 use lib.Ieee.{binary64, fits}
@@ -17,7 +17,8 @@ use Rattle.exact.specs.Size.{Within}
 use Rattle.exact.proofs.Order.{pos-≤}
 use Rattle.exact.proofs.Sizes.{within_neg, fits64}
 use Rattle.exact.proofs.Machine.{reread, reread_result}
-use Rattle.metres.proofs.Whole.{field, digits, sized_no_nan, field_most, far_below, by_digits}
+use Rattle.metres.specs.Tick.{signed, nearest_whole}
+use Rattle.metres.proofs.Whole.{bits, digits, sized_no_nan, field_most, far_below, by_digits}
 use Rattle.metres.proofs.nearest_whole.Goals as goal
 use Rattle.metres.proofs.nearest_whole.Goals.{Else-exponent-lt1013, Start}
 
@@ -29,15 +30,19 @@ pub float_to_bits-bits : goal.float_to_bits-bits
 float_to_bits-bits c = sized_no_nan 150000000 c.args.p c.requires.sized
 
 pub returns-then-exponent-lt1013 : goal.returns-then-exponent-lt1013
-returns-then-exponent-lt1013 c = far_below c.args.p (held c.before) c.requires c.if-exponent-lt1013.true
+returns-then-exponent-lt1013 c = far_below c.args.p (held c.before.before) c.requires (rw c.exponent_of-exponent.ensures at c.if-exponent-lt1013.true)
 
 -- the power of two and the digits, as the machine has them
 module _ (c : Else-exponent-lt1013) where
   abbrev by : ℕ
-  by = 1075 - field c.args.p
+  by = 1075 - c.exponent_of-exponent.result
 
-  most : field c.args.p ≤ 1050
-  most = field_most c.args.p (held c.before) c.requires
+  most : c.exponent_of-exponent.result ≤ 1050
+  most = omega (arith, c.exponent_of-exponent.ensures, field_most c.args.p (held c.before.before) c.requires)
+
+  -- the digits over the power of two
+  quotient : (s : Bool) → leb (2 ^ 63) (bits c.args.p) ≡ s → nearest_z (signed s (2 ^ 52 + digits c.args.p)) (pos (2 ^ by)) ≡ nearest_whole c.args.p
+  quotient = rw c.exponent_of-exponent.ensures (by_digits c.args.p (held c.before.before) c.requires (rw c.exponent_of-exponent.ensures at c.if-exponent-lt1013.false))
 
   unit_is : 1 * 2 ^ by % 2 ^ 64 ≡ 2 ^ by
   unit_is = shl_exact 1 by 64 (omega arith) (omega (arith, c.if-exponent-lt1013.false)) ∙ one-mul (2 ^ by)
@@ -84,7 +89,7 @@ returns-then-bits-lt-SIGN c =
     let e = t.before in
     reread_result c.nearest.type_inv
     (c.nearest.ensures ∙ ap₂ nearest_z (digits_read e) (unit_read_lem e)
-    ∙ by_digits e.args.p (held e.before) e.requires e.if-exponent-lt1013.false false (lt-leb _ _ t.if-bits-lt-SIGN.true))
+    ∙ quotient e false (lt-leb _ _ t.if-bits-lt-SIGN.true))
 
 pub returns-else-bits-lt-SIGN : goal.returns-else-bits-lt-SIGN
 returns-else-bits-lt-SIGN c =
@@ -92,4 +97,4 @@ returns-else-bits-lt-SIGN c =
     let e = t.before in
     reread_result c.nearest-else-bits-lt-SIGN.type_inv
     (c.nearest-else-bits-lt-SIGN.ensures ∙ ap₂ nearest_z (negated_read e) (unit_read_lem e)
-    ∙ by_digits e.args.p (held e.before) e.requires e.if-exponent-lt1013.false true (le-leb _ _ t.if-bits-lt-SIGN.false))
+    ∙ quotient e true (le-leb _ _ t.if-bits-lt-SIGN.false))

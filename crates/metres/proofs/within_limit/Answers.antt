@@ -3,4 +3,4 @@ use Rattle.metres.proofs.SizeLaws.{within_limit_lem}
 use Rattle.metres.proofs.within_limit.Goals as goal
 
 pub returns : goal.returns
-returns c = within_limit_lem c.args.x
+returns c = rw c.abs.ensures.value (within_limit_lem c.args.x)
