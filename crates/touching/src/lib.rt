@@ -11,16 +11,14 @@ use plane::Vec2;
 fn ranges_meet(a: i64, b: i64, c: i64, d: i64) -> bool
     ensures { result ≡ ranges_meet a b c d }
 {
-    ((a <= c) | (a <= d) | (b <= c) | (b <= d)) & ((c <= a) | (c <= b) | (d <= a) | (d <= b))
+    a.min(b) <= c.max(d) && c.min(d) <= a.max(b)
 }
 
 fn right_normal(v: Vec2) -> Vec2
     requires { Moderate v }
     ensures { result ≡ right_normal v }
 {
-    let x = v.x;
-    let y = v.y;
-    Vec2 { x: y, y: -x }
+    Vec2 { x: v.y, y: -v.x }
 }
 
 // Whether the segments ab and cd overlap, seen along m.
@@ -28,11 +26,12 @@ fn overlap(m: Vec2, a: Vec2, b: Vec2, c: Vec2, d: Vec2) -> bool
     requires { Sighted m a b c d }
     ensures { result ≡ overlap_z m a b c d }
 {
-    let p = plane::dot(m, a);
-    let q = plane::dot(m, b);
-    let r = plane::dot(m, c);
-    let s = plane::dot(m, d);
-    ranges_meet(p, q, r, s)
+    ranges_meet(
+        plane::dot(m, a),
+        plane::dot(m, b),
+        plane::dot(m, c),
+        plane::dot(m, d),
+    )
 }
 
 // The test itself, by products.
@@ -43,10 +42,9 @@ fn touches_near(a: Vec2, b: Vec2, c: Vec2, d: Vec2) -> bool
     let across_ab = right_normal(plane::minus(b, a));
     let across_cd = right_normal(plane::minus(d, c));
     let from_a_to_c = plane::minus(c, a);
-    let first = overlap(across_ab, a, b, c, d);
-    let second = overlap(across_cd, a, b, c, d);
-    let third = overlap(from_a_to_c, a, b, c, d);
-    first & second & third
+    overlap(across_ab, a, b, c, d)
+        && overlap(across_cd, a, b, c, d)
+        && overlap(from_a_to_c, a, b, c, d)
 }
 
 // Whether the segments ab and cd have a point in common; end points count, and either may be a single point.
@@ -55,20 +53,7 @@ pub fn touches(a: Vec2, b: Vec2, c: Vec2, d: Vec2) -> bool
     requires { Touchable a b c d }
     ensures { result ≡ touches_z a b c d }
 {
-    let ax = a.x;
-    let ay = a.y;
-    let bx = b.x;
-    let by = b.y;
-    let cx = c.x;
-    let cy = c.y;
-    let dx = d.x;
-    let dy = d.y;
-    if ranges_meet(ax, bx, cx, dx) {
-        if ranges_meet(ay, by, cy, dy) {
-            return touches_near(a, b, c, d);
-        }
-    }
-    false
+    ranges_meet(a.x, b.x, c.x, d.x) && ranges_meet(a.y, b.y, c.y, d.y) && touches_near(a, b, c, d)
 }
 
 // Claim: two segments touch exactly where some point lies on both.

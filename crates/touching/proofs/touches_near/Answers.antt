@@ -1,12 +1,12 @@
 -- `touching::touches_near` meets its contract: every direction is moderate, so each product fits.
-use mathlib.Core.Path.{◌≡◌, sym, ◌∙◌, ap, subst}
-use mathlib.Core.Bool.{Bool}
+use mathlib.Core.Path.{sym, ◌∙◌, ap, subst}
+use mathlib.Core.Bool.{Bool, false≢true}
 use Rattle.plane.specs.declared.Vec2.{Vec2}
-use Rattle.plane.specs.Vector.{minus, right_normal, Moderate}
+use Rattle.plane.specs.Vector.{right_normal, Moderate}
 use Rattle.touching.specs.Touch.{overlap, touches}
 use Rattle.touching.proofs.Sights.{minus_moderate, across_moderate}
 use Rattle.touching.proofs.touches_near.Goals as goal
-use Rattle.touching.proofs.touches_near.Goals.{After-minus-from_a_to_c, Start}
+use Rattle.touching.proofs.touches_near.Goals.{then-overlap, else-overlap}
 
 pub right_normal-across_ab-requires : goal.right_normal-across_ab-requires
 right_normal-across_ab-requires c = let t = c.requires in subst Moderate (sym c.minus.ensures) (minus_moderate t.first_from t.first_to)
@@ -14,30 +14,49 @@ right_normal-across_ab-requires c = let t = c.requires in subst Moderate (sym c.
 pub right_normal-across_cd-requires : goal.right_normal-across_cd-requires
 right_normal-across_cd-requires c = let t = c.requires in subst Moderate (sym c.minus-2.ensures) (minus_moderate t.second_from t.second_to)
 
--- the directions
-module _ (c : After-minus-from_a_to_c) where
-  abbrev start : Start
-  start = c.before.before.before.before.before
+pub overlap-requires : goal.overlap-requires
+overlap-requires c =
+    let t = c.requires in
+    let ab = c.right_normal-across_ab.ensures ∙ ap right_normal c.minus.ensures in
+    rw ab (record { direction = across_moderate t.first_from t.first_to; segments = t })
 
-  across_ab_lem : c.right_normal-across_ab.result ≡ right_normal (minus start.args.b start.args.a)
-  across_ab_lem = c.right_normal-across_ab.ensures ∙ ap right_normal c.minus.ensures
+pub overlap-requires-then-overlap : goal.overlap-requires-then-overlap
+overlap-requires-then-overlap c =
+    let t = c.requires in
+    let cd = c.right_normal-across_cd.ensures ∙ ap right_normal c.minus-2.ensures in
+    rw cd (record { direction = across_moderate t.second_from t.second_to; segments = t })
 
-  across_cd_lem : c.right_normal-across_cd.result ≡ right_normal (minus start.args.d start.args.c)
-  across_cd_lem = c.right_normal-across_cd.ensures ∙ ap right_normal c.minus-2.ensures
+pub overlap-requires-then-overlap-2 : goal.overlap-requires-then-overlap-2
+overlap-requires-then-overlap-2 c = let t = c.requires in rw c.minus-from_a_to_c.ensures (record { direction = minus_moderate t.first_from t.second_from; segments = t })
 
-pub overlap-first-requires : goal.overlap-first-requires
-overlap-first-requires c = let t = (start c).requires in rw (across_ab_lem c) (record { direction = across_moderate t.first_from t.first_to; segments = t })
-
-pub overlap-second-requires : goal.overlap-second-requires
-overlap-second-requires c = let t = (start c.before).requires in rw (across_cd_lem c.before) (record { direction = across_moderate t.second_from t.second_to; segments = t })
-
-pub overlap-third-requires : goal.overlap-third-requires
-overlap-third-requires c = let t = (start c.before.before).requires in rw c.minus-from_a_to_c.ensures (record { direction = minus_moderate t.first_from t.second_from; segments = t })
-
-pub returns : goal.returns
+pub returns-then-overlap-2 : goal.returns-then-overlap-2
 unfolding touches
-returns c =
-    let s = c.before.before.before in
-    let a = (start s).args in
+returns-then-overlap-2 c =
+    let a = c.args in
     let seen : Vec2 → Bool = λ m. overlap m a.a a.b a.c a.d in
-    rw (c.overlap-first.ensures ∙ ap seen (across_ab_lem s), c.overlap-second.ensures ∙ ap seen (across_cd_lem s), c.overlap-third.ensures ∙ ap seen s.minus-from_a_to_c.ensures)
+    let ab = c.right_normal-across_ab.ensures ∙ ap right_normal c.minus.ensures in
+    let cd = c.right_normal-across_cd.ensures ∙ ap right_normal c.minus-2.ensures in
+    elim c.if-overlap.branch [
+      | then-overlap w ↦
+          let first = sym (c.overlap.ensures ∙ ap seen ab) ∙ w.if-overlap.true in
+          let second = sym (w.overlap-then-overlap.ensures ∙ ap seen cd) ∙ sym w.value-is ∙ c.if-overlap-2.true in
+          rw (first, second) (c.overlap-then-overlap-2.ensures ∙ ap seen c.minus-from_a_to_c.ensures)
+      | else-overlap w ↦ absurd (false≢true (sym w.if-overlap.false ∙ sym w.value-is ∙ c.if-overlap-2.true))
+    ]
+
+pub returns-else-overlap-2 : goal.returns-else-overlap-2
+unfolding touches
+returns-else-overlap-2 c =
+    let a = c.args in
+    let seen : Vec2 → Bool = λ m. overlap m a.a a.b a.c a.d in
+    let ab = c.right_normal-across_ab.ensures ∙ ap right_normal c.minus.ensures in
+    let cd = c.right_normal-across_cd.ensures ∙ ap right_normal c.minus-2.ensures in
+    elim c.if-overlap.branch [
+      | then-overlap w ↦
+          let first = sym (c.overlap.ensures ∙ ap seen ab) ∙ w.if-overlap.true in
+          let second = sym (w.overlap-then-overlap.ensures ∙ ap seen cd) ∙ sym w.value-is ∙ c.if-overlap-2.false in
+          rw (first, second) c.if-overlap-2.false
+      | else-overlap w ↦
+          let first = sym (c.overlap.ensures ∙ ap seen ab) ∙ w.if-overlap.false in
+          rw first c.if-overlap-2.false
+    ]
