@@ -1,13 +1,22 @@
 -- The first fault of the first n values of an array, turn by turn. Assumes nothing.
 use Prim.Native.Nat.{ℕ, zero, suc, ◌+◌, ◌<◌, ◌≤◌}
-use mathlib.Core.Path.{◌≡◌, refl}
+use mathlib.Core.Path.{◌≡◌, refl, sym}
 use mathlib.Core.List.{List, [], ◌∷◌}
 use mathlib.Core.Bool.{Bool, true, false}
 use native.Mathlib.Omega.{arith}
-use lib.ListN.{length, take, drop, get_or}
+use borrow.Author.Tests.{ne_eqb}
+use lib.Dec.{eqb}
+use lib.ListN.{length, take, drop, get_or, length-take}
+use Rattle.std.proofs.lemmas.List.{take-take}
 use Rattle.number.proofs.ManyLaws.{next_of, none_of}
+use Rattle.std.specs.Prelude.{Result, Ok, Err, is_ok}
+use Rattle.refusal.specs.declared.Fault.{Fault}
+use Rattle.refusal.specs.Numbers.{number_of, fault_number}
 use Rattle.job.specs.Allowed.{unit_count_allowed, widths_allowed, start_allowed, step_allowed, element_count_allowed}
 use Rattle.job.specs.Faults.{or_fault, first_of, fault_of, units_fault, elements_fault, vehicle_fault, judge}
+use Rattle.job.specs.declared.Element.{Element}
+use Rattle.job.specs.declared.Form.{Form}
+use Rattle.job.specs.declared.Unit.{Unit as VehicleUnit}
 use Rattle.job.specs.declared.Vehicle.{Vehicle}
 use Rattle.job.specs.declared.Job.{Job}
 
@@ -81,3 +90,28 @@ fault_at one next end t [] i z h l = absurd (omega arith)
 fault_at one next end t (x ∷ xs) zero z h l = (t, (first_none (one t x) (fault_of one next end (next t x) xs) h).0)
 fault_at one next end t (x ∷ xs) (suc i) z h l =
     fault_at one next end (next t x) xs i z (first_none (one t x) (fault_of one next end (next t x) xs) h).1 (omega arith)
+
+-- each refusal has a number, which no other test hides
+pub numbered : (f : Fault) → number_of f ≡ 0 → ⊥
+numbered f h = grind arith
+
+pub first_told : {A : Type 0} (r : Result A Fault) (f : Fault) (n : ℕ) → r ≡ Err f → first_of (fault_number r) n ≡ number_of f
+first_told r f n e = rw e (first_of_lem (number_of f) n (numbered f))
+
+-- the values in use are a slice of their own: its length is their number, and its first so many values are all of it
+module _ (n : ℕ) where
+  pub units_used : (form : Form) (us : List VehicleUnit) → n ≤ length us → units_fault form (length (take n us)) (take n us) ≡ units_fault form n us
+  unfolding units_fault
+  units_used form us h =
+      let l : length (take n us) ≡ n = omega (arith, length-take n us) in
+      rw (l, take-take n n us (omega arith))
+
+  pub elements_used : (step : ℕ) (es : List Element) → n ≤ length es → elements_fault step (length (take n es)) (take n es) ≡ elements_fault step n es
+  unfolding elements_fault
+  elements_used step es h =
+      let l : length (take n es) ≡ n = omega (arith, length-take n es) in
+      rw (l, take-take n n es (omega arith))
+
+pub ok_by_number : {A : Type 0} (r : Result A Fault) → is_ok r ≡ eqb (fault_number r) 0
+ok_by_number (Ok a) = refl
+ok_by_number (Err f) = sym (ne_eqb (number_of f) 0 (numbered f))

@@ -1,6 +1,7 @@
 // The job: its types, what its fields may hold, and the test of a job handed over by value.
 #![tactic(auto)]
 
+mod empty;
 mod measures;
 mod rows;
 
@@ -9,11 +10,13 @@ ghost use Rattle.number.specs.Field.{within, size_at_most};
 ghost use Rattle.job.specs.Allowed.{hitch_most, fold_allowed, overhang_most, curve_allowed, heading_allowed, start_allowed};
 ghost use Rattle.job.specs.Steps.{steps_of, tally, steps_allowed};
 ghost use Rattle.job.specs.Faults.{vehicle_fault, judge as judge_of};
-ghost use Rattle.job.specs.Empty.{empty_body, empty_units, empty_elements, empty_vehicle, empty_job};
 ghost use Rattle.job.specs.Inner.{Countable};
+ghost use Rattle.refusal.specs.Numbers.{fault_number};
 
+pub use empty::{empty_body, empty_elements, empty_job, empty_units, empty_vehicle};
 use number::Range;
 use plane::Vec2;
+use refusal::Fault;
 
 #[derive(Clone, Copy)]
 pub enum Side {
@@ -35,7 +38,7 @@ pub struct Element {
 }
 
 // How far a unit's body reaches beyond its front point and its rear axle, and to either side.
-#[derive(Clone, Copy)]
+#[derive(Clone, Copy, PartialEq, Eq)]
 pub struct Body {
     pub front_overhang: u32,
     pub rear_overhang: u32,
@@ -43,7 +46,7 @@ pub struct Body {
 }
 
 // The hitch lies so far ahead of the rear axle; the fold limit is in thousandths.
-#[derive(Clone, Copy)]
+#[derive(Clone, Copy, PartialEq, Eq)]
 pub struct Unit {
     pub wheelbase: u32,
     pub hitch: i32,
@@ -52,13 +55,14 @@ pub struct Unit {
 }
 
 // A long job has bodies; those of a short one are never read.
-#[derive(Clone, Copy)]
+#[derive(Clone, Copy, PartialEq, Eq)]
 pub enum Form {
     Short,
     Long,
 }
 
-#[derive(Clone, Copy)]
+// Kept: an array with a count, as there is no heap (a rule of the project), and what is promised of unused units speaks of them.
+#[derive(Clone, Copy, PartialEq, Eq)]
 pub struct Vehicle {
     pub form: Form,
     pub count: usize,
@@ -76,6 +80,7 @@ pub struct Start {
     pub gy: i32,
 }
 
+// Kept: an array with a count, for the same reasons as a vehicle's units.
 #[derive(Clone, Copy)]
 pub struct Job {
     pub vehicle: Vehicle,
@@ -134,9 +139,10 @@ pub fn fold_allowed(first: bool, fold: i32) -> bool
     ensures { result ≡ fold_allowed first fold }
 {
     if first {
-        return number::size_of(fold) <= 0;
+        fold == 0
+    } else {
+        (-1000..=990).contains(&fold)
     }
-    (-1000 <= fold) & (fold <= 990)
 }
 
 // The range of the overhang that stands once, after all units: bodies have their own.
@@ -152,8 +158,8 @@ pub fn overhang_range(form: Form) -> Range
 pub fn heading_allowed(gx: i32, gy: i32) -> bool
     ensures { result ≡ heading_allowed gx gy }
 {
-    let x = gx as i64;
-    let y = gy as i64;
+    let x = i64::from(gx);
+    let y = i64::from(gy);
     plane::has_length(Vec2 { x, y }, 1000000)
 }
 
@@ -169,12 +175,9 @@ pub fn curve_allowed(curve: Curve) -> bool
 fn start_allowed(s: Start) -> bool
     ensures { result ≡ start_allowed s }
 {
-    let x = s.x;
-    let y = s.y;
-    let gx = s.gx;
-    let gy = s.gy;
-    (number::size_of(x) <= COORDINATE)
-        & ((number::size_of(y) <= COORDINATE) & heading_allowed(gx, gy))
+    s.x.unsigned_abs() <= COORDINATE
+        && s.y.unsigned_abs() <= COORDINATE
+        && heading_allowed(s.gx, s.gy)
 }
 
 // The running total of steps after one element more.
@@ -182,9 +185,7 @@ pub fn tally_element(total: u64, step: u32, e: Element) -> u64
     requires { Countable step total }
     ensures { result ≡ tally step total e }
 {
-    let length = e.length;
-    let full = total + (length / step) as u64;
-    if length % step == 0 { full } else { full + 1 }
+    total + u64::from(e.length.div_ceil(step))
 }
 
 pub fn steps_allowed(total: u64) -> bool
@@ -193,114 +194,41 @@ pub fn steps_allowed(total: u64) -> bool
     total <= 2000
 }
 
-// The first fault of a vehicle, 3, 4 or 5, or 0 for none.
-pub fn vehicle_fault(v: Vehicle) -> u8
-    ensures { result ≡ vehicle_fault v }
+// The first fault of a vehicle: its number of units, a unit or a width.
+pub fn vehicle_fault(v: Vehicle) -> Result<(), Fault>
+    ensures { fault_number result ≡ vehicle_fault v }
 {
-    let count = v.count;
-    if !is_within_count(UNIT_COUNT, count) {
-        return 3;
+    if !is_within_count(UNIT_COUNT, v.count) {
+        return Err(Fault::UnitCount);
     }
-    let form = v.form;
-    let units = v.units;
-    let fault = rows::units_fault(form, units, count);
-    if fault != 0 {
-        return fault;
+    rows::units_fault(v.form, &v.units[..v.count])?;
+    if measures::widths_allowed(v) {
+        Ok(())
+    } else {
+        Err(Fault::Width)
     }
-    if measures::widths_allowed(v) { 0 } else { 5 }
 }
 
 // A count in a range; a caller's count may be any.
 fn is_within_count(range: Range, count: usize) -> bool
     ensures { result ≡ within range count }
 {
-    (range.least as usize <= count) & (count <= range.most as usize)
+    range.least as usize <= count && count <= range.most as usize
 }
 
-// The first fault of a job, 3 to 9 in the order of its fields, or 0 for none.
-pub fn judge(j: Job) -> u8
-    ensures { result ≡ judge_of j }
+// The first fault of a job in the order of its fields.
+pub fn judge(j: Job) -> Result<(), Fault>
+    ensures { fault_number result ≡ judge_of j }
 {
-    let fault = vehicle_fault(j.vehicle);
-    if fault != 0 {
-        return fault;
-    }
+    vehicle_fault(j.vehicle)?;
     if !start_allowed(j.start) {
-        return 6;
+        return Err(Fault::Start);
     }
-    let step = j.step;
-    if !number::is_within(STEP, step) {
-        return 7;
+    if !number::is_within(STEP, j.step) {
+        return Err(Fault::Step);
     }
-    let count = j.count;
-    if !is_within_count(ELEMENT_COUNT, count) {
-        return 8;
+    if !is_within_count(ELEMENT_COUNT, j.count) {
+        return Err(Fault::Element);
     }
-    let elements = j.elements;
-    rows::elements_fault(elements, count, step)
-}
-
-pub fn empty_body() -> Body
-    ensures { result ≡ empty_body }
-{
-    Body {
-        front_overhang: 0,
-        rear_overhang: 0,
-        half_width: 0,
-    }
-}
-
-// The units and elements of a job that has none in use.
-pub fn empty_units() -> [Unit; 4]
-    ensures { result ≡ empty_units }
-{
-    let body = empty_body();
-    [Unit {
-        wheelbase: 0,
-        hitch: 0,
-        fold: 0,
-        body,
-    }; 4]
-}
-
-pub fn empty_elements() -> [Element; 64]
-    ensures { result ≡ empty_elements }
-{
-    [Element {
-        length: 0,
-        curve: Curve::Straight,
-    }; 64]
-}
-
-pub fn empty_vehicle() -> Vehicle
-    ensures { result ≡ empty_vehicle }
-{
-    let units = empty_units();
-    Vehicle {
-        form: Form::Short,
-        count: 0,
-        units,
-        overhang: 0,
-        front_half_width: 0,
-        rear_half_width: 0,
-    }
-}
-
-pub fn empty_job() -> Job
-    ensures { result ≡ empty_job }
-{
-    let vehicle = empty_vehicle();
-    let elements = empty_elements();
-    Job {
-        vehicle,
-        start: Start {
-            x: 0,
-            y: 0,
-            gx: 0,
-            gy: 0,
-        },
-        step: 0,
-        count: 0,
-        elements,
-    }
+    rows::elements_fault(&j.elements[..j.count], j.step)
 }

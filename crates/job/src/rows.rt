@@ -1,48 +1,42 @@
 // The units and the elements in use, tested one after the other.
-ghost use Rattle.std.specs.Prelude.{◌≡◌};
+ghost use Rattle.std.specs.Prelude.{◌≡◌, length};
 ghost use Rattle.job.specs.Allowed.{element_allowed};
 ghost use Rattle.job.specs.Faults.{units_fault, elements_fault};
 ghost use Rattle.job.specs.Inner.{UnitsInUse, ElementsInUse};
+ghost use Rattle.refusal.specs.Numbers.{fault_number};
 
 use crate::{Element, Form, Unit, measures};
+use refusal::Fault;
 
-pub(crate) fn units_fault(form: Form, units: [Unit; 4], count: usize) -> u8
-    requires { UnitsInUse count }
-    ensures { result ≡ units_fault form count units }
+pub(crate) fn units_fault(form: Form, units: &[Unit]) -> Result<(), Fault>
+    ensures { fault_number result ≡ units_fault form (length units.now) units.now }
 {
-    let mut i: usize = 0;
-    while i < count {
-        let u = units[i];
-        let fault = measures::unit_fault(form, i == 0, i + 1 == count, u);
-        if fault != 0 {
-            return fault;
-        }
-        i += 1;
+    for (i, u) in units.iter().enumerate() {
+        measures::unit_fault(form, i == 0, i + 1 == units.len(), *u)?;
     }
-    0
+    Ok(())
 }
 
 fn element_allowed(e: Element) -> bool
     ensures { result ≡ element_allowed e }
 {
-    let curve = e.curve;
-    number::is_within(crate::LENGTH, e.length) & crate::curve_allowed(curve)
+    number::is_within(crate::LENGTH, e.length) && crate::curve_allowed(e.curve)
 }
 
-pub(crate) fn elements_fault(elements: [Element; 64], count: usize, step: u32) -> u8
-    requires { ElementsInUse step count }
-    ensures { result ≡ elements_fault step count elements }
+pub(crate) fn elements_fault(elements: &[Element], step: u32) -> Result<(), Fault>
+    requires { ElementsInUse step (length elements.now) }
+    ensures { fault_number result ≡ elements_fault step (length elements.now) elements.now }
 {
     let mut total: u64 = 0;
-    let mut i: usize = 0;
-    while i < count {
-        let e = elements[i];
-        if element_allowed(e) {
-            total = crate::tally_element(total, step, e);
-            i += 1;
-        } else {
-            return 8;
+    for e in elements {
+        if !element_allowed(*e) {
+            return Err(Fault::Element);
         }
+        total = crate::tally_element(total, step, *e);
     }
-    if crate::steps_allowed(total) { 0 } else { 9 }
+    if crate::steps_allowed(total) {
+        Ok(())
+    } else {
+        Err(Fault::StepTotal)
+    }
 }

@@ -1,60 +1,41 @@
 -- `job::judge` meets its contract. Assumes nothing.
+use Prim.Native.Nat.{◌≤◌}
 use native.Mathlib.Omega.{arith}
-use mathlib.Core.Path.{◌≡◌, ◌∙◌, sym}
-use mathlib.Core.Bool.{true}
-use lib.Dec.{leb}
-use borrow.Author.Tests.{leb-true}
-use Rattle.number.proofs.FieldCodec.{both, within_most}
-use Rattle.job.specs.Allowed.{start_allowed, step_allowed, element_count_allowed}
-use Rattle.job.specs.Faults.{judge, vehicle_fault}
-use Rattle.job.proofs.FaultLaws.{first_of_lem}
+use borrow.Author.Rules.{rules}
+use mathlib.Core.Path.{◌≡◌, sym}
+use lib.ListN.{length}
+use Rattle.std.proofs.lemmas.Result.{err_from_is_err_and}
+use Rattle.number.proofs.FieldCodec.{within_most}
+use Rattle.job.specs.Faults.{judge}
+use Rattle.job.proofs.Arrays.{unmapped}
+use Rattle.job.proofs.FaultLaws.{first_told, elements_used}
 use Rattle.job.proofs.judge.Goals as goal
-use Rattle.job.proofs.judge.Goals.{Else-fault-ne0, Else-not-is_within, Else-not-is_within_count, Else-not-start_allowed}
+use Rattle.job.proofs.judge.Goals.{Else-not-is_within_count}
 
--- the tests that were passed, each at its place
-vehicle : (c : Else-fault-ne0) → vehicle_fault c.args.j.vehicle ≡ 0
-vehicle c = sym c.vehicle_fault-fault.ensures ∙ c.if-fault-ne0.false
+sixty_four : (c : Else-not-is_within_count) → length c.args.j.elements ≡ 64
+sixty_four c = search (rules, unmapped)
 
-start : (c : Else-not-start_allowed) → start_allowed c.args.j.start ≡ true
-start c = sym c.start_allowed.ensures ∙ c.if-not-start_allowed.false
-
-step : (c : Else-not-is_within) → step_allowed c.args.j.step ≡ true
-step c = sym c.is_within.ensures ∙ c.if-not-is_within.false
-
-count : (c : Else-not-is_within_count) → element_count_allowed c.args.j.count ≡ true
-count c = sym c.is_within_count.ensures ∙ c.if-not-is_within_count.false
-
-pub returns-then-fault-ne0 : goal.returns-then-fault-ne0
+pub returns-in_err-vehicle_fault : goal.returns-in_err-vehicle_fault
 unfolding judge
-returns-then-fault-ne0 c = rw (← c.vehicle_fault-fault.ensures) (sym (first_of_lem _ _ c.if-fault-ne0.true))
+returns-in_err-vehicle_fault c =
+    let p = err_from_is_err_and c.from_residual.result c.from_residual.ensures.1 in
+    rw (p.1, p.2, ← c.vehicle_fault.ensures) (sym (first_told _ _ _ c.in_err-vehicle_fault.was))
 
 pub returns-then-not-start_allowed : goal.returns-then-not-start_allowed
 unfolding judge
-returns-then-not-start_allowed c = rw (vehicle c.before.before.before, sym c.start_allowed.ensures ∙ c.if-not-start_allowed.true)
+returns-then-not-start_allowed c = rw (← c.in_ok-vehicle_fault.ensures, ← c.if-not-start_allowed.ensures)
 
 pub returns-then-not-is_within : goal.returns-then-not-is_within
 unfolding judge
-returns-then-not-is_within c = let s = c.before.before in
-    rw (vehicle s.before.before.before, start s, sym c.is_within.ensures ∙ c.if-not-is_within.true)
+returns-then-not-is_within c = rw (← c.in_ok-vehicle_fault.ensures, ← c.if-not-start_allowed.ensures, ← c.if-not-is_within.ensures)
 
 pub returns-then-not-is_within_count : goal.returns-then-not-is_within_count
 unfolding judge
-returns-then-not-is_within_count c = let d = c.before.before in
-    let s = d.before.before in
-    rw (vehicle s.before.before.before, start s, step d, sym c.is_within_count.ensures ∙ c.if-not-is_within_count.true)
-
-pub elements_fault-requires : goal.elements_fault-requires
-elements_fault-requires c = let n = c.before in
-    let d = n.before.before in
-    let j = d.args.j in
-    record {
-      positive = omega (arith, leb-true 100 j.step (both (leb 100 j.step) (leb j.step 20000) (step d)).0);
-      most = within_most (record { least = 1; most = 64 }) j.count (count n);
-    }
+returns-then-not-is_within_count c = rw (← c.in_ok-vehicle_fault.ensures, ← c.if-not-start_allowed.ensures, ← c.if-not-is_within.ensures, ← c.if-not-is_within_count.ensures)
 
 pub returns : goal.returns
 unfolding judge
-returns c = let n = c.before.before in
-    let d = n.before.before in
-    let s = d.before.before in
-    rw (c.elements_fault.ensures, vehicle s.before.before.before, start s, step d, count n)
+returns c = let j = c.args.j in
+    let s = c.before.before.before in
+    let h : j.count ≤ length j.elements = omega (arith, within_most (record { least = 1; most = 64 }) j.count (sym c.if-not-is_within_count.ensures), sixty_four s) in
+    rw (c.elements_fault.ensures, elements_used j.count j.step j.elements h, ← c.in_ok-vehicle_fault.ensures, ← c.if-not-start_allowed.ensures, ← c.if-not-is_within.ensures, ← c.if-not-is_within_count.ensures)

@@ -1,34 +1,44 @@
 -- `job::vehicle_fault` meets its contract. Assumes nothing.
-use mathlib.Core.Path.{◌≡◌, ◌∙◌, sym}
-use mathlib.Core.Bool.{true}
+use native.Mathlib.Omega.{arith}
+use borrow.Author.Rules.{rules}
+use mathlib.Core.Path.{◌≡◌, sym}
+use lib.ListN.{length, take}
+use Rattle.std.proofs.lemmas.Result.{err_from_is_err_and}
 use Rattle.number.proofs.FieldCodec.{within_most}
-use Rattle.job.specs.Allowed.{unit_count_allowed}
-use Rattle.job.specs.Faults.{vehicle_fault}
-use Rattle.job.proofs.FaultLaws.{first_of_lem}
+use Rattle.job.specs.Faults.{vehicle_fault, units_fault}
+use Rattle.job.proofs.Arrays.{unmapped}
+use Rattle.job.proofs.FaultLaws.{first_told, units_used}
 use Rattle.job.proofs.vehicle_fault.Goals as goal
 use Rattle.job.proofs.vehicle_fault.Goals.{Else-not-is_within_count}
 
-counted : (c : Else-not-is_within_count) → unit_count_allowed c.args.v.count ≡ true
-counted c = sym c.is_within_count.ensures ∙ c.if-not-is_within_count.false
+-- the units that are tested are those in use
+module _ (c : Else-not-is_within_count) where
+  four : length c.args.v.units ≡ 4
+  four = search (rules, unmapped)
+
+  used : let v = c.args.v in units_fault v.form (length (take v.count v.units)) (take v.count v.units) ≡ units_fault v.form v.count v.units
+  used = let v = c.args.v in
+      units_used v.count v.form v.units (omega (arith, within_most (record { least = 1; most = 4 }) v.count (sym c.if-not-is_within_count.ensures), four))
 
 pub returns-then-not-is_within_count : goal.returns-then-not-is_within_count
 unfolding vehicle_fault
-returns-then-not-is_within_count c = rw (sym c.is_within_count.ensures ∙ c.if-not-is_within_count.true)
+returns-then-not-is_within_count c = rw (← c.if-not-is_within_count.ensures)
 
-pub units_fault-fault-requires : goal.units_fault-fault-requires
-units_fault-fault-requires c = record { most = within_most (record { least = 1; most = 4 }) _ (counted c.before) }
-
-pub returns-then-fault-ne0 : goal.returns-then-fault-ne0
+pub returns-in_err-units_fault : goal.returns-in_err-units_fault
 unfolding vehicle_fault
-returns-then-fault-ne0 c = let f = c.before in
-    rw (counted f.before.before, ← f.units_fault-fault.ensures) (sym (first_of_lem _ _ c.if-fault-ne0.true))
+returns-in_err-units_fault c =
+    let p = err_from_is_err_and c.from_residual.result c.from_residual.ensures.1 in
+    let s = c.before.before.before.before.before.before in
+    rw (p.1, p.2, ← c.if-not-is_within_count.ensures, ← used s, ← c.units_fault.ensures) (sym (first_told _ _ _ c.in_err-units_fault.was))
 
 pub returns-then-widths_allowed : goal.returns-then-widths_allowed
 unfolding vehicle_fault
-returns-then-widths_allowed c = let f = c.before.before.before in
-    rw (counted f.before.before, ← f.units_fault-fault.ensures, c.if-fault-ne0.false, sym c.widths_allowed.ensures ∙ c.if-widths_allowed.true)
+returns-then-widths_allowed c =
+    let s = c.before.before.before.before.before.before.before in
+    rw (← c.if-not-is_within_count.ensures, ← used s, ← c.in_ok-units_fault.ensures, ← c.if-widths_allowed.ensures)
 
 pub returns-else-widths_allowed : goal.returns-else-widths_allowed
 unfolding vehicle_fault
-returns-else-widths_allowed c = let f = c.before.before.before in
-    rw (counted f.before.before, ← f.units_fault-fault.ensures, c.if-fault-ne0.false, sym c.widths_allowed.ensures ∙ c.if-widths_allowed.false)
+returns-else-widths_allowed c =
+    let s = c.before.before.before.before.before.before.before in
+    rw (← c.if-not-is_within_count.ensures, ← used s, ← c.in_ok-units_fault.ensures, ← c.if-widths_allowed.ensures)

@@ -1,9 +1,8 @@
 -- `job::rows::elements_fault` meets its contract. Assumes nothing.
-use Prim.Native.Nat.{◌+◌, ◌-◌}
+use Prim.Native.Nat.{◌+◌}
 use native.Mathlib.Omega.{arith}
-use borrow.Author.Rules.{rules}
-use mathlib.Core.Path.{◌≡◌, ◌∙◌, sym, refl}
-use lib.ListN.{get_or}
+use mathlib.Core.Path.{◌≡◌, ◌∙◌, sym}
+use lib.ListN.{length, get_or}
 use Rattle.job.specs.Steps.{tally}
 use Rattle.job.specs.Faults.{first_of, or_fault, element_fault, total_fault, elements_fault}
 use Rattle.job.specs.Empty.{empty_element}
@@ -15,50 +14,38 @@ use Rattle.job.proofs.rows.elements_fault.Goals.{After-element_allowed, After-st
 
 -- one turn: the test of the element at i, and of those after it with its steps
 turn : (c : After-element_allowed) →
-    let l = c.loop-i in
+    let l = c.loop-e in
     let a = c.args in
-    let e = get_or a.elements l.i empty_element in
-    first_of (or_fault c.element_allowed.result 8 0) (left a.step a.count a.elements (tally a.step l.total e) (l.i + 1)) ≡ left a.step a.count a.elements 0 0
+    let es = a.elements.now in
+    let e = get_or es l.e-index empty_element in
+    first_of (or_fault c.element_allowed.result 8 0) (left a.step es (tally a.step l.total e) (l.e-index + 1)) ≡ left a.step es 0 0
 turn c =
-    let l = c.loop-i in
-    let s = c.before.before.before.before in
-    let a = s.args in
-    rw c.element_allowed.ensures (sym (fault_next element_fault (tally a.step) total_fault a.elements a.count l.i l.total empty_element (omega (arith, s.requires.most, l.invariant.1)) c.loop-i-test.true) ∙ l.invariant.3)
+    let l = c.loop-e in
+    let a = c.args in
+    let es = a.elements.now in
+    rw c.element_allowed.ensures (sym (fault_next element_fault (tally a.step) total_fault es (length es) l.e-index l.total empty_element (omega arith) c.loop-e-test.true) ∙ l.invariant.1)
 
 -- after the last element the total is tested
-done : (c : After-steps_allowed) →
-    let s = c.before.before.before in
-    total_fault c.loop-i.total ≡ left s.args.step s.args.count s.args.elements 0 0
+done : (c : After-steps_allowed) → total_fault c.loop-e.total ≡ left c.args.step c.args.elements.now 0 0
 done c =
-    let l = c.loop-i in
+    let l = c.loop-e in
     let a = c.args in
-    sym (fault_end element_fault (tally a.step) total_fault a.elements a.count l.i l.total c.loop-i-test.false) ∙ l.invariant.3
+    let es = a.elements.now in
+    sym (fault_end element_fault (tally a.step) total_fault es (length es) l.e-index l.total c.loop-e-test.false) ∙ l.invariant.1
 
-pub loop-i-init : goal.loop-i-init
-loop-i-init c = (omega arith, search rules, omega arith, refl)
-
-pub bounds-elements-i : goal.bounds-elements-i
-bounds-elements-i c = omega (arith, c.requires.most)
-
-pub tally_element-total-requires : goal.tally_element-total-requires
-tally_element-total-requires c = let l = c.before.before.before.before in
-    record { positive = l.requires.positive; room = omega (arith, l.loop-i.invariant.2, l.requires.most, c.loop-i-test.true) }
-
-pub loop-i-preserved : goal.loop-i-preserved
-loop-i-preserved c = let q = c.before.before in
-    let l = q.before.before.before in
-    let a = l.args in
-    let e = get_or a.elements l.loop-i.i empty_element in
-    let t : c.tally_element-total.result ≡ tally a.step l.loop-i.total e = c.tally_element-total.ensures in (
-      omega arith,
-      l.loop-i.invariant.1,
-      omega (arith, t, l.loop-i.invariant.2, tally_most a.step l.loop-i.total e (sym q.element_allowed.ensures ∙ c.if-element_allowed.true)),
-      rw t (rw c.if-element_allowed.true at (turn q)),
-    )
-
-pub returns-else-element_allowed : goal.returns-else-element_allowed
+pub returns-then-not-element_allowed : goal.returns-then-not-element_allowed
 unfolding elements_fault
-returns-else-element_allowed c = rw c.if-element_allowed.false at (turn c.before)
+returns-then-not-element_allowed c = rw c.if-not-element_allowed.true at (turn c.before)
+
+pub loop-e-preserved : goal.loop-e-preserved
+loop-e-preserved c = let l = c.loop-e in
+    let a = c.args in
+    let e = get_or a.elements.now l.e-index empty_element in
+    let q = c.before.before.before in
+    let t : c.tally_element-total.result ≡ tally a.step l.total e = c.tally_element-total.ensures in (
+      omega (arith, t, l.invariant.0, tally_most a.step l.total e (sym q.element_allowed.ensures ∙ c.if-not-element_allowed.false)),
+      rw t (rw c.if-not-element_allowed.false at (turn q)),
+    )
 
 pub returns-then-steps_allowed : goal.returns-then-steps_allowed
 unfolding elements_fault

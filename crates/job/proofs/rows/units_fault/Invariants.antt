@@ -1,5 +1,5 @@
 -- `job::rows::units_fault` meets its contract. Assumes nothing.
-use Prim.Native.Nat.{ℕ, ◌+◌, ◌-◌, ◌≤◌}
+use Prim.Native.Nat.{ℕ, ◌+◌}
 use mathlib.Core.Path.{◌≡◌}
 use mathlib.Core.List.{List}
 use lib.ListN.{length, take, drop}
@@ -9,11 +9,8 @@ use Rattle.job.specs.declared.Unit.{Unit as VehicleUnit}
 use Rattle.job.proofs.rows.units_fault.Given as goal
 
 -- the fault of the units from i on
-abbrev pub left : Form → ℕ → List VehicleUnit → ℕ → ℕ
-left form count us i = fault_of (unit_fault_at form count) (λ i u. i + 1) (λ i. 0) i (drop i (take count us))
+abbrev pub left : Form → List VehicleUnit → ℕ → ℕ
+left form us i = fault_of (unit_fault_at form (length us)) (λ i u. i + 1) (λ i. 0) i (drop i (take (length us) us))
 
 abbrev pub invariant-loop-i : goal.invariant-loop-i
-invariant-loop-i l = (l.i ≤ l.count) × (length l.units ≡ 4) × (left l.form l.count l.units l.i ≡ left l.form l.count l.units 0)
-
-abbrev pub decreases-loop-i : goal.decreases-loop-i
-decreases-loop-i l = l.count - l.i
+invariant-loop-i l = left l.form l.units l.i ≡ left l.form l.units 0

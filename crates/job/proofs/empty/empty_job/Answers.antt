@@ -1,6 +1,6 @@
--- `job::empty_job` meets its contract. Assumes nothing.
+-- `job::empty::empty_job` meets its contract. Assumes nothing.
 use Rattle.job.specs.Empty.{empty_job}
-use Rattle.job.proofs.empty_job.Goals as goal
+use Rattle.job.proofs.empty.empty_job.Goals as goal
 
 pub returns : goal.returns
 unfolding empty_job

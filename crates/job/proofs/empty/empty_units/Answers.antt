@@ -1,6 +1,6 @@
--- `job::empty_units` meets its contract. Assumes nothing.
+-- `job::empty::empty_units` meets its contract. Assumes nothing.
 use Rattle.job.specs.Empty.{empty_units}
-use Rattle.job.proofs.empty_units.Goals as goal
+use Rattle.job.proofs.empty.empty_units.Goals as goal
 
 pub returns : goal.returns
 unfolding empty_units

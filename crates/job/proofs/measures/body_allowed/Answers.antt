@@ -1,6 +1,0 @@
--- `job::measures::body_allowed` meets its contract. Assumes nothing.
-
-use Rattle.job.proofs.measures.body_allowed.Goals as goal
-
-pub returns : goal.returns
-returns c = rw (c.is_within.ensures, c.is_within-2.ensures, c.is_within-3.ensures)
