@@ -1,6 +1,6 @@
-pub mod CurveLaws
 pub mod ReadLaws
 pub mod PartLaws
+pub mod FirstLaws
+pub mod AnswerLaws
 pub mod PlaceLaws
 pub mod Rows
-pub mod Witnesses

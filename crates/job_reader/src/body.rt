@@ -1,58 +1,41 @@
 // The body of a unit, whose three fields stand in a long job only.
 ghost use Rattle.std.specs.Prelude.{◌≡◌};
-ghost use Rattle.number.specs.Read.{refused};
+ghost use Rattle.number.specs.Answers.{as_part};
 ghost use Rattle.job_reader.specs.Record.{read_body, read_body_of};
-ghost use Rattle.job_reader.specs.Answers.{body_read};
 
-use crate::{BodyRead, Passed};
 use job::{Body, Form};
-use number::{Cursor, Number, Refusal};
+use number::Cursor;
+use refusal::{Fault, Refusal};
 
-fn refused_body(w: Refusal) -> BodyRead
-    ensures { result ≡ body_read (refused w.number w.place) }
+fn read_body(s: &[u8], c: Cursor) -> Result<(Body, Cursor), Refusal>
+    ensures { as_part result ≡ read_body s.now c.at }
 {
-    let body = job::empty_body();
-    BodyRead {
-        answer: Passed::Refused(w.number, w.place),
-        body,
-    }
-}
-
-fn read_body(s: &[u8], c: Cursor) -> BodyRead
-    ensures { result ≡ body_read (read_body s.now c.at) }
-{
-    let a = number::read_within(s, c, 5, job::OVERHANG);
-    let Number::Value(front_overhang, c1) = a else {
-        return refused_body(number::number_refusal(a));
+    let (front_overhang, c1) = number::named(
+        number::read_within(s, c, job::OVERHANG),
+        Fault::Width,
+    )?;
+    let (rear_overhang, c2) = number::named(
+        number::read_within(s, c1, job::OVERHANG),
+        Fault::Width,
+    )?;
+    let (half_width, c3) = number::named(
+        number::read_within(s, c2, job::HALF_WIDTH),
+        Fault::Width,
+    )?;
+    let body = Body {
+        front_overhang,
+        rear_overhang,
+        half_width,
     };
-    let b = number::read_within(s, c1, 5, job::OVERHANG);
-    let Number::Value(rear_overhang, c2) = b else {
-        return refused_body(number::number_refusal(b));
-    };
-    let d = number::read_within(s, c2, 5, job::HALF_WIDTH);
-    let Number::Value(half_width, c3) = d else {
-        return refused_body(number::number_refusal(d));
-    };
-    BodyRead {
-        answer: Passed::At(c3),
-        body: Body {
-            front_overhang,
-            rear_overhang,
-            half_width,
-        },
-    }
+    Ok((body, c3))
 }
 
 // A short job's bodies come back zero.
-pub(crate) fn read_body_of(s: &[u8], c: Cursor, form: Form) -> BodyRead
-    ensures { result ≡ body_read (read_body_of form s.now c.at) }
+pub(crate) fn read_body_of(s: &[u8], c: Cursor, form: Form) -> Result<(Body, Cursor), Refusal>
+    ensures { as_part result ≡ read_body_of form s.now c.at }
 {
-    let Form::Short = form else {
-        return read_body(s, c);
-    };
-    let body = job::empty_body();
-    BodyRead {
-        answer: Passed::At(c),
-        body,
+    match form {
+        Form::Short => Ok((job::empty_body(), c)),
+        Form::Long => read_body(s, c),
     }
 }

@@ -1,51 +1,20 @@
 // The first number of a record: it tells a short job from a long one, and how many units follow.
 ghost use Rattle.std.specs.Prelude.{◌≡◌};
-ghost use Rattle.number.specs.Field.{field};
-ghost use Rattle.number.specs.Answers.{as_number};
-ghost use Rattle.job.specs.Announced.{announces, announced_form, announced_count};
-ghost use Rattle.job_reader.specs.Inner.{Announcing};
+ghost use Rattle.number.specs.Answers.{as_part};
+ghost use Rattle.job_reader.specs.Inner.{read_announced};
 
 use job::Form;
-use number::{Cursor, Number, Range};
+use number::Cursor;
+use refusal::{Fault, Refusal};
 
-const LONG_COUNT: Range = Range {
-    least: 11,
-    most: 14,
-};
-
-fn announces(n: u32) -> bool
-    ensures { result ≡ announces n }
+// 1 to 4 announce so many units of a short job, 11 to 14 one to four of a long one.
+pub(crate) fn read_announced(s: &[u8], c: Cursor) -> Result<((Form, usize), Cursor), Refusal>
+    ensures { as_part result ≡ read_announced s.now c.at }
 {
-    number::is_within(job::UNIT_COUNT, n) | number::is_within(LONG_COUNT, n)
-}
-
-pub(crate) fn announced_form(n: u32) -> Form
-    ensures { result ≡ announced_form n }
-{
-    if n <= 4 { Form::Short } else { Form::Long }
-}
-
-pub(crate) fn announced_count(n: u32) -> usize
-    requires { Announcing n }
-    ensures { result ≡ announced_count n }
-{
-    if n <= 4 {
-        n as usize
-    } else {
-        (n - 10) as usize
+    let (n, next) = number::named(number::read(s, c), Fault::UnitCount)?;
+    match n {
+        1..=4 => Ok(((Form::Short, n as usize), next)),
+        11..=14 => Ok(((Form::Long, (n - 10) as usize), next)),
+        _ => Err(Fault::UnitCount.at(c.at)),
     }
-}
-
-pub(crate) fn read_first(s: &[u8], c: Cursor) -> Number
-    ensures { as_number result ≡ field 3 announces s.now c.at }
-{
-    let at = c.at;
-    let a = number::read(s, c);
-    let Number::Value(n, _) = a else {
-        return a;
-    };
-    if announces(n) {
-        return a;
-    }
-    Number::Refused(3, at)
 }

@@ -1,31 +1,33 @@
 -- `job_reader::elements::read_element` meets its contract. Assumes nothing.
-use mathlib.Core.Path.{◌≡◌, ◌∙◌, ap}
+use mathlib.Core.Path.{◌≡◌, ap, ◌∙◌}
 use mir.Syntax.{w32}
 use mir.Val.{to_z, of_z}
+use borrow.Author.Rules.{rules}
 use Rattle.job.specs.Curves.{curve_of}
 use Rattle.job_reader.specs.Record.{read_element}
-use borrow.Author.Rules.{rules}
+use Rattle.job_reader.proofs.PartLaws.{handed_on}
 use Rattle.job_reader.proofs.elements.read_element.Goals as goal
-use Rattle.job_reader.proofs.elements.read_element.Lts as lts
-use Rattle.job_reader.proofs.elements.read_element.Reads as reads
-use Rattle.job_reader.proofs.elements.read_element.Tie as tie
 
--- the steps of the code that the lemmas below speak of
-abbrev In-Value-b : Type 0
-In-Value-b = lts.Past-After-known_told2 tie.the-claims reads.Pre reads.Post
-
--- the signed radius is read back from its bits as it was
-radius : (c : In-Value-b) → to_z w32 (of_z w32 c.in-Value-b.radius) ≡ c.in-Value-b.radius
-radius c = search rules
-
-pub returns-in_default : goal.returns-in_default
+pub returns-in_err-length : goal.returns-in_err-length
 unfolding read_element
-returns-in_default c = rw (c.refused_element.ensures, c.number_refusal.ensures, ← c.read_within-a.ensures, c.in_default.is)
+returns-in_err-length c =
+    rw (handed_on _ c.from_residual.result c.from_residual.ensures.1, ← (c.in_err-length.ensures ∙ c.read_within.ensures 8))
 
-pub returns-in_default-b : goal.returns-in_default-b
+pub returns-in_err-radius : goal.returns-in_err-radius
 unfolding read_element
-returns-in_default-b c = rw (c.refused_element-in_default-b.ensures, c.signed_refusal.ensures, ← c.read_within-a.ensures, c.in-Value.is, ← c.read_radius-b.ensures, c.in_default-b.is)
+returns-in_err-radius c =
+    rw (
+      handed_on _ c.from_residual-in_err-radius.result c.from_residual-in_err-radius.ensures.1,
+      ← (c.in_ok-length.ensures ∙ c.read_within.ensures 8),
+      ← c.in_err-radius.ensures,
+    )
 
 pub returns : goal.returns
 unfolding read_element
-returns c = rw (c.curve_of-curve.ensures ∙ ap curve_of (radius c.before.before), ← c.read_within-a.ensures, c.in-Value.is, ← c.read_radius-b.ensures, c.in-Value-b.is)
+returns c =
+    let e : to_z w32 (of_z w32 c.in_ok-radius.radius) ≡ c.in_ok-radius.radius = search rules in
+    rw (
+      c.curve_of-curve.ensures ∙ ap curve_of e,
+      ← (c.in_ok-length.ensures ∙ c.read_within.ensures 8),
+      ← c.in_ok-radius.ensures,
+    )

@@ -1,50 +1,52 @@
 -- `job_reader::units::read_units` meets its contract. Assumes nothing.
-use Prim.Native.Nat.{◌-◌}
+use Prim.Native.Nat.{ℕ, ◌≤◌, ◌<◌}
 use native.Mathlib.Omega.{arith}
 use native.Mathlib.Nat.{sub-zero}
-use mathlib.Core.Path.{◌≡◌, ◌∙◌, sym, ap}
+use mathlib.Core.Path.{◌≡◌, ◌∙◌, sym}
+use mathlib.Core.List.{List}
+use lib.ListN.{length, take, drop}
+use Rattle.std.proofs.lemmas.List.{set-append_left, take-append-drop, length-take-le}
 use Rattle.number.proofs.ManyLaws.{into_end, into_more, into_refused}
-use Rattle.job.specs.Empty.{empty_unit}
+use Rattle.job.specs.Empty.{empty_units}
+use Rattle.job.specs.declared.Unit.{Unit as VehicleUnit}
 use Rattle.job_reader.specs.Record.{read_unit_at, read_units}
-use Rattle.job_reader.specs.Answers.{beside, units_read}
-use Rattle.job_reader.proofs.PartLaws.{shown}
-use Rattle.job_reader.proofs.units.read_units.Invariants.{rest, next, end}
+use Rattle.job_reader.proofs.PartLaws.{handed_on}
+use Rattle.job_reader.proofs.units.read_units.Invariants.{next, end, all}
 use Rattle.job_reader.proofs.units.read_units.Goals as goal
-use Rattle.job_reader.proofs.units.read_units.Lts as lts
-use Rattle.job_reader.proofs.units.read_units.Reads as reads
-use Rattle.job_reader.proofs.units.read_units.Tie as tie
 
--- the steps of the code that the lemmas below speak of
-abbrev After-read_unit-r : Type 0
-After-read_unit-r = lts.After-read_unit tie.the-claims reads.Pre reads.Post goal.the-invariant-loop-i goal.the-decreases-loop-i
-
--- the unit that was read
-unit : (c : After-read_unit-r) →
-    let l = c.loop-i in
-    let a = c.args in
-    beside c.read_unit-r.result.unit c.read_unit-r.result.answer ≡ read_unit_at a.form a.count l.i a.s.now l.at.at
-unit c = rw c.read_unit-r.ensures (shown empty_unit _)
+-- as many units as are in use
+size : (us : List VehicleUnit) (count : ℕ) → us ≡ empty_units → count ≤ 4 → length (take count us) ≡ count
+unfolding empty_units
+size us count e h = rw e (length-take-le count empty_units h)
 
 pub loop-i-init : goal.loop-i-init
 unfolding read_units
-loop-i-init c = (omega arith, rw (c.empty_units-units.ensures, sub-zero))
+loop-i-init c = rw (c.empty_units-units.ensures, take-append-drop c.args.count empty_units, sub-zero)
 
-pub returns-in_default : goal.returns-in_default
-returns-in_default c = let l = c.loop-i in
+pub returns-in_err-unit : goal.returns-in_err-unit
+returns-in_err-unit c =
+    let l = c.loop-i in
     let a = c.args in
-    let r = c.before.before.before.before in
-    rw (c.refused_units.ensures, c.passed_refusal.ensures, c.in_default.is)
-    (ap units_read (sym (into_refused (read_unit_at a.form a.count) next end _ l.units a.count l.i _ l.i c.loop-i-test.true (sym (ap (beside r.read_unit-r.result.unit) c.in_default.is) ∙ unit r)) ∙ l.invariant.1))
-
-pub bounds-units-i : goal.bounds-units-i
-bounds-units-i c = omega (arith, c.requires.most, c.loop-i-test.true)
+    let n = size _ a.count c.empty_units-units.ensures c.requires.most in
+    let lt : l.i < a.count = omega (arith, n, c.loop-i-test.true) in
+    rw (handed_on _ c.from_residual.result c.from_residual.ensures.1)
+    (sym (into_refused (read_unit_at a.form a.count) next end _ (all l.place-items a.count) a.count l.i _ l.i lt c.in_err-unit.ensures) ∙ l.invariant)
 
 pub loop-i-preserved : goal.loop-i-preserved
-loop-i-preserved c = let l = c.loop-i in
+loop-i-preserved c =
+    let l = c.loop-i in
     let a = c.args in
-    (omega arith, sym (into_more (read_unit_at a.form a.count) next end _ l.units a.count l.i _ l.i c.loop-i-test.true (sym (ap (beside c.read_unit-r.result.unit) c.in-At.is) ∙ unit c.before.before.before)) ∙ l.invariant.1)
+    let n = size _ a.count c.empty_units-units.ensures c.requires.most in
+    let lt : l.i < a.count = omega (arith, n, c.loop-i-test.true) in
+    let within : l.i < length l.place-items = omega (arith, c.loop-i-test.true) in
+    rw (← set-append_left l.place-items (drop a.count empty_units) l.i c.in_ok-unit.unit within)
+    (sym (into_more (read_unit_at a.form a.count) next end _ (all l.place-items a.count) a.count l.i _ l.i lt c.in_ok-unit.ensures) ∙ l.invariant)
 
 pub returns : goal.returns
-returns c = let l = c.loop-i in
+returns c =
+    let l = c.loop-i in
     let a = c.args in
-    ap units_read (sym (into_end (read_unit_at a.form a.count) next end _ l.units a.count l.i _ l.i c.loop-i-test.false) ∙ l.invariant.1)
+    let n = size _ a.count c.empty_units-units.ensures c.requires.most in
+    let le : a.count ≤ l.i = omega (arith, n, c.loop-i-test.false) in
+    rw c.empty_units-units.ensures
+    (sym (into_end (read_unit_at a.form a.count) next end _ (all l.place-items a.count) a.count l.i _ l.i le) ∙ l.invariant)

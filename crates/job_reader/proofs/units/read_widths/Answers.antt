@@ -1,36 +1,49 @@
 -- `job_reader::units::read_widths` meets its contract. Assumes nothing.
-use mathlib.Core.Path.{◌≡◌}
+use mathlib.Core.Path.{◌≡◌, ◌∙◌}
 use Rattle.number.specs.Field.{field}
-use Rattle.number.specs.Answers.{as_number}
+use Rattle.number.specs.Answers.{as_read}
 use Rattle.job.specs.Allowed.{old_overhang_allowed}
 use Rattle.job_reader.specs.Record.{read_widths}
+use Rattle.job_reader.proofs.PartLaws.{handed_on}
 use Rattle.job_reader.proofs.units.read_widths.Goals as goal
-use Rattle.job_reader.proofs.units.read_widths.Lts as lts
-use Rattle.job_reader.proofs.units.read_widths.Reads as reads
-use Rattle.job_reader.proofs.units.read_widths.Tie as tie
 
--- the steps of the code that the lemmas below speak of
-abbrev After-read_within-a : Type 0
-After-read_within-a = lts.After-read_within tie.the-claims reads.Pre reads.Post
-
--- the overhang is read in its form's range
-overhang : (c : After-read_within-a) →
-    let a = c.args in
-    as_number c.read_within-a.result ≡ field 5 (old_overhang_allowed a.form) a.s.now a.c.at
-overhang c = rw c.overhang_range.ensures at c.read_within-a.ensures
-
-pub returns-in_default : goal.returns-in_default
+-- in each, `o`: the overhang is read in its form's range
+pub returns-in_err-overhang : goal.returns-in_err-overhang
 unfolding read_widths
-returns-in_default c = rw (c.refused_vehicle.ensures, c.number_refusal.ensures, ← overhang c.before.before.before.before, c.in_default.is)
+returns-in_err-overhang c =
+    let o : as_read 5 c.read_within.result ≡ field 5 (old_overhang_allowed c.args.form) c.args.s.now c.args.c.at = rw c.overhang_range-range.ensures at c.read_within.ensures 5 in
+    rw (
+      handed_on _ c.from_residual.result c.from_residual.ensures.1,
+      ← (c.in_err-overhang.ensures ∙ o),
+    )
 
-pub returns-in_default-b : goal.returns-in_default-b
+pub returns-in_err-front_half_width : goal.returns-in_err-front_half_width
 unfolding read_widths
-returns-in_default-b c = rw (c.refused_vehicle-in_default-b.ensures, c.number_refusal-in_default-b.ensures, ← overhang c.before.before.before.before.before.before, c.in-Value.is, ← c.read_within-b.ensures, c.in_default-b.is)
+returns-in_err-front_half_width c =
+    let o : as_read 5 c.read_within.result ≡ field 5 (old_overhang_allowed c.args.form) c.args.s.now c.args.c.at = rw c.overhang_range-range.ensures at c.read_within.ensures 5 in
+    rw (
+      handed_on _ c.from_residual-in_err-front_half_width.result c.from_residual-in_err-front_half_width.ensures.1,
+      ← (c.in_ok-overhang.ensures ∙ o),
+      ← (c.in_err-front_half_width.ensures ∙ c.read_within-2.ensures 5),
+    )
 
-pub returns-in_default-d : goal.returns-in_default-d
+pub returns-in_err-rear_half_width : goal.returns-in_err-rear_half_width
 unfolding read_widths
-returns-in_default-d c = rw (c.refused_vehicle-in_default-d.ensures, c.number_refusal-in_default-d.ensures, ← overhang c.before.before.before.before.before.before.before.before, c.in-Value.is, ← c.read_within-b.ensures, c.in-Value-b.is, ← c.read_within-d.ensures, c.in_default-d.is)
+returns-in_err-rear_half_width c =
+    let o : as_read 5 c.read_within.result ≡ field 5 (old_overhang_allowed c.args.form) c.args.s.now c.args.c.at = rw c.overhang_range-range.ensures at c.read_within.ensures 5 in
+    rw (
+      handed_on _ c.from_residual-in_err-rear_half_width.result c.from_residual-in_err-rear_half_width.ensures.1,
+      ← (c.in_ok-overhang.ensures ∙ o),
+      ← (c.in_ok-front_half_width.ensures ∙ c.read_within-2.ensures 5),
+      ← (c.in_err-rear_half_width.ensures ∙ c.read_within-3.ensures 5),
+    )
 
 pub returns : goal.returns
 unfolding read_widths
-returns c = rw (← overhang c.before.before.before.before.before.before, c.in-Value.is, ← c.read_within-b.ensures, c.in-Value-b.is, ← c.read_within-d.ensures, c.in-Value-d.is)
+returns c =
+    let o : as_read 5 c.read_within.result ≡ field 5 (old_overhang_allowed c.args.form) c.args.s.now c.args.c.at = rw c.overhang_range-range.ensures at c.read_within.ensures 5 in
+    rw (
+      ← (c.in_ok-overhang.ensures ∙ o),
+      ← (c.in_ok-front_half_width.ensures ∙ c.read_within-2.ensures 5),
+      ← (c.in_ok-rear_half_width.ensures ∙ c.read_within-3.ensures 5),
+    )
