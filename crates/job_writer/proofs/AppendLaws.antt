@@ -4,13 +4,14 @@ use mathlib.Core.Path.{◌≡◌, refl, sym, ◌∙◌, ap}
 use mathlib.Core.List.{List, [], ◌++◌}
 use native.Mathlib.Omega.{arith}
 use native.Mathlib.Nat.{add-zero, add_assoc}
-use lib.ListN.{length, take, drop, get_or, length-append}
+use native.Mathlib.Numerals.{add-one}
+use lib.ListN.{length, drop, get_or, length-append, drop_of_length-le}
+use lib.Seq.{drop-cons}
 use Rattle.number.specs.Read.{write_many}
 use Rattle.number.specs.Inner.{Room}
-use Rattle.number.proofs.ManyLaws.{write_next, write_none}
 use Rattle.number.proofs.Writing.{sets_append}
 use Rattle.job_writer.specs.Encoding.{appended}
-use Rattle.job_writer.specs.declared.Encoded.{Encoded}
+use Rattle.job_writer.specs.declared.encode.Encoded.{Encoded}
 
 pub join : (e : Encoded) (a b : List ℕ) {e₁ e₂ : Encoded} → e₁ ≡ appended e a → e₂ ≡ appended e₁ b → e₂ ≡ appended e (a ++ b)
 join e a b p q = q ∙ ap (λ (x : Encoded). appended x b) p ∙ sym (rw (sets_append e.bytes e.at a b, length-append a b, ← add_assoc))
@@ -28,16 +29,25 @@ then e a b p h = record { ends = omega (arith, length-append a b, ap (λ (x : En
 pub record Run {A : Type 0} (w : A → List ℕ) (xs : List A) (e out : Encoded) (i : ℕ) : Type 0 where
   pub same : appended out (write_many w (drop i xs)) ≡ appended e (write_many w xs)
 
-module _ {A : Type 0} (w : A → List ℕ) (es : List A) (n : ℕ) (e out : Encoded) (i : ℕ) where
-  pub run_room : (z : A) → n ≤ length es → i < n → e.at + length (write_many w (take n es)) ≤ 520 → Run w (take n es) e out i → Room (w (get_or es i z)) out.at 520
-  run_room z h l f r =
-      let s : out.at + length (write_many w (drop i (take n es))) ≡ e.at + length (write_many w (take n es)) = ap (λ (x : Encoded). x.at) r.same in
-      first (w (get_or es i z)) (write_many w (drop (i + 1) (take n es))) out.at (omega (arith, ap length (write_next w es n i z h l)))
+module _ {A : Type 0} (w : A → List ℕ) (xs : List A) (e out : Encoded) (i : ℕ) where
+  -- the value at i is the first of those that are left
+  next : (z : A) → i < length xs → write_many w (drop i xs) ≡ w (get_or xs i z) ++ write_many w (drop (i + 1) xs)
+  unfolding write_many
+  next z l = rw (drop-cons xs i z l, add-one)
 
-  pub run_next : (z : A) → n ≤ length es → i < n → {o : Encoded} → o ≡ appended out (w (get_or es i z)) → Run w (take n es) e out i → Run w (take n es) e o (i + 1)
-  run_next z h l p r = record {
-    same = join out (w (get_or es i z)) (write_many w (drop (i + 1) (take n es))) p refl ∙ ap (appended out) (sym (write_next w es n i z h l)) ∙ r.same;
+  none : length xs ≤ i → write_many w (drop i xs) ≡ []
+  unfolding write_many
+  none h = rw (drop_of_length-le xs {i = i} h)
+
+  pub run_room : (z : A) → i < length xs → e.at + length (write_many w xs) ≤ 520 → Run w xs e out i → Room (w (get_or xs i z)) out.at 520
+  run_room z l f r =
+      let s : out.at + length (write_many w (drop i xs)) ≡ e.at + length (write_many w xs) = ap (λ (x : Encoded). x.at) r.same in
+      first (w (get_or xs i z)) (write_many w (drop (i + 1) xs)) out.at (omega (arith, ap length (next z l)))
+
+  pub run_next : (z : A) → i < length xs → {o : Encoded} → o ≡ appended out (w (get_or xs i z)) → Run w xs e out i → Run w xs e o (i + 1)
+  run_next z l p r = record {
+    same = join out (w (get_or xs i z)) (write_many w (drop (i + 1) xs)) p refl ∙ ap (appended out) (sym (next z l)) ∙ r.same;
   }
 
-  pub run_end : n ≤ i → Run w (take n es) e out i → out ≡ appended e (write_many w (take n es))
-  run_end h r = sym (append_none out) ∙ ap (appended out) (sym (write_none w es n i h)) ∙ r.same
+  pub run_end : length xs ≤ i → Run w xs e out i → out ≡ appended e (write_many w xs)
+  run_end h r = sym (append_none out) ∙ ap (appended out) (sym (none h)) ∙ r.same

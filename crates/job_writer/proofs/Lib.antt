@@ -1,6 +1,5 @@
 pub mod AppendLaws
 pub mod AnswerLaws
-pub mod CurveLaws
 pub mod LengthLaws
 pub mod PartCodecs
 pub mod Reach

@@ -1,5 +1,6 @@
 -- What the inner functions require can be met: the worked job of 01, "Rigs to try". Assumes nothing.
-use Prim.Native.Nat.{ℕ, ◌<◌}
+use Prim.Native.Nat.{ℕ, zero, suc, ◌<◌}
+use mathlib.Core.List.{[], ◌∷◌}
 use mathlib.Core.Path.{◌≡◌, refl}
 use native.Mathlib.Omega.{arith}
 use Rattle.number.specs.Read.{write_many}
@@ -10,12 +11,11 @@ use mathlib.Core.Bool.{true}
 use Rattle.job.specs.Allowed.{heading_allowed, curve_allowed}
 use Rattle.job.specs.Faults.{fault_of, units_fault, elements_fault, vehicle_fault, judge}
 use Rattle.job.specs.Empty.{empty_units, empty_elements, empty_element}
-use Rattle.job.specs.declared.Form.TheVariants.{Short}
 use Rattle.job.specs.declared.Curve.TheVariants.{Straight}
 use Rattle.job_reader.specs.Worked.{worked_record}
 use Rattle.job_reader.proofs.Rows.{worked_job}
 use Rattle.job_writer.specs.Write.{write_job}
-use Rattle.job_writer.specs.Inner.{Copied, Allowed, UnitsFit, VehicleFits, ElementFits, ElementsFit, PathFits, Accepted}
+use Rattle.job_writer.specs.Inner.{Allowed, VehicleFits, ElementFits, ElementsFit, PathFits, Accepted}
 use Rattle.job_writer.proofs.LengthLaws.{elements_allowed}
 use Rattle.job.proofs.FaultLaws.{sound}
 
@@ -31,15 +31,8 @@ worked_written = refl
 accepted : Accepted worked_job
 accepted = record { accepted = worked_judged }
 
-copied : Copied 25 25
-copied = record { most = omega arith; fits = omega arith }
-
 allowed : Allowed Straight
 allowed = record { allowed = refl }
-
-units_fit : UnitsFit Short worked_job.vehicle.units 1 1
-unfolding worked_job write_many write_groups write_number empty_units
-units_fit = record { most = omega arith; ends = omega arith }
 
 vehicle_fits : VehicleFits worked_job.vehicle 0
 unfolding worked_job write_many write_groups write_number empty_units
@@ -53,9 +46,13 @@ each_allowed : (i : ℕ) → i < 1 → curve_allowed (get_or worked_job.elements
 unfolding worked_job empty_elements
 each_allowed = elements_allowed 5000 1 worked_job.elements (omega arith) (sound worked_job worked_judged).elements
 
-elements_fit : ElementsFit worked_job.elements 1 21
-unfolding worked_job write_many write_groups write_number empty_elements
-elements_fit = record { most = omega arith; allowed = each_allowed; ends = omega arith }
+each_straight : (i : ℕ) → i < 1 → curve_allowed (get_or (empty_element ∷ []) i empty_element).curve ≡ true
+each_straight zero h = refl
+each_straight (suc i) h = absurd (omega arith)
+
+elements_fit : ElementsFit (empty_element ∷ []) 21
+unfolding write_many write_groups write_number
+elements_fit = record { allowed = each_straight; ends = omega arith }
 
 path_fits : PathFits worked_job 18
 unfolding worked_job write_many write_groups write_number empty_elements

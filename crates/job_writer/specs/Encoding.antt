@@ -1,7 +1,7 @@
 -- A record in the making: its bytes so far, at the start of an array, and their number.
 use Rattle.std.specs.Prelude.{ℕ, ◌+◌, List, length, replicate}
 use Rattle.std.proofs.lemmas.List.Edits.{sets}
-use Rattle.job_writer.specs.declared.Encoded.{Encoded}
+use Rattle.job_writer.specs.declared.encode.Encoded.{Encoded}
 
 abbrev pub appended : Encoded → List ℕ → Encoded
 appended e bytes = record { bytes = sets e.bytes e.at bytes; at = e.at + length bytes }

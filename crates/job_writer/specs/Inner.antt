@@ -1,30 +1,19 @@
 -- What the functions that are no entries require of their callers.
-use Rattle.std.specs.Prelude.{ℕ, ◌+◌, ◌≤◌, ◌<◌, ◌≡◌, List, true, length, take, get_or}
+use Rattle.std.specs.Prelude.{ℕ, ◌+◌, ◌≤◌, ◌<◌, ◌≡◌, List, true, length, get_or}
 use Rattle.number.specs.Read.{write_many}
 use Rattle.job.specs.Allowed.{curve_allowed}
 use Rattle.job.specs.Faults.{judge}
 use Rattle.job.specs.Empty.{empty_element}
 use Rattle.job.specs.declared.Curve.{Curve}
-use Rattle.job.specs.declared.Form.{Form}
-use Rattle.job.specs.declared.Unit.{Unit as VehicleUnit}
 use Rattle.job.specs.declared.Vehicle.{Vehicle}
 use Rattle.job.specs.declared.Element.{Element}
 use Rattle.job.specs.declared.Job.{Job}
-use Rattle.job_writer.specs.Write.{write_unit, write_vehicle, write_element, write_path}
-
--- as many bytes as are copied stand in the array, and fit the run
-pub record Copied (count size : ℕ) : Type 0 where
-  pub most : count ≤ 520
-  pub fits : count ≤ size
+use Rattle.job_writer.specs.Write.{write_vehicle, write_element, write_path}
 
 pub record Allowed (curve : Curve) : Type 0 where
   pub allowed : curve_allowed curve ≡ true
 
--- the units in use, and room for their bytes
-pub record UnitsFit (form : Form) (units : List VehicleUnit) (count at : ℕ) : Type 0 where
-  pub most : count ≤ 4
-  pub ends : at + length (write_many (write_unit form) (take count units)) ≤ 520
-
+-- the units in use, and room for the bytes
 pub record VehicleFits (v : Vehicle) (at : ℕ) : Type 0 where
   pub most : v.count ≤ 4
   pub ends : at + length (write_vehicle v) ≤ 520
@@ -33,10 +22,9 @@ pub record ElementFits (e : Element) (at : ℕ) : Type 0 where
   pub allowed : curve_allowed e.curve ≡ true
   pub ends : at + length (write_element e) ≤ 520
 
-pub record ElementsFit (elements : List Element) (count at : ℕ) : Type 0 where
-  pub most : count ≤ 64
-  pub allowed : (i : ℕ) → i < count → curve_allowed (get_or elements i empty_element).curve ≡ true
-  pub ends : at + length (write_many write_element (take count elements)) ≤ 520
+pub record ElementsFit (elements : List Element) (at : ℕ) : Type 0 where
+  pub allowed : (i : ℕ) → i < length elements → curve_allowed (get_or elements i empty_element).curve ≡ true
+  pub ends : at + length (write_many write_element elements) ≤ 520
 
 pub record PathFits (j : Job) (at : ℕ) : Type 0 where
   pub most : j.count ≤ 64

@@ -1,5 +1,5 @@
 // The encoding of a job, field after field.
-ghost use Rattle.std.specs.Prelude.{◌≡◌, take};
+ghost use Rattle.std.specs.Prelude.{◌≡◌, ◌≤◌};
 ghost use Rattle.number.specs.Read.{write_many};
 ghost use Rattle.number.specs.Number.{write_number};
 ghost use Rattle.number.specs.Signed.{field_of, write_signed};
@@ -9,94 +9,122 @@ ghost use Rattle.job.specs.Curves.{radius_of};
 ghost use Rattle.job.specs.Inner.{UnitsInUse};
 ghost use Rattle.job_writer.specs.Write.{write_three, write_body, write_unit, write_widths, write_vehicle, write_start, write_element, write_path, write_job};
 ghost use Rattle.job_writer.specs.Encoding.{appended, nothing};
-ghost use Rattle.job_writer.specs.Inner.{Allowed, UnitsFit, VehicleFits, ElementFits, ElementsFit, PathFits, Accepted};
+ghost use Rattle.job_writer.specs.Inner.{Allowed, VehicleFits, ElementFits, ElementsFit, PathFits, Accepted};
 
-use crate::Encoded;
 use job::{Body, Curve, Element, Form, Job, Side, Start, Unit, Vehicle};
 
-fn put_number(e: Encoded, x: u32) -> Encoded
-    requires { Room (write_number x) e.at 520 }
-    ensures { result ≡ appended e (write_number x) }
-{
-    let mut bytes = e.bytes;
-    let at = e.at;
-    let next = number::write(&mut bytes, at, x);
-    Encoded { bytes, at: next }
+// The bytes of a record so far, and their number.
+// Kept: an array with a length beside it, as there is no heap (a rule of the project); no record is over 520 bytes.
+#[derive(Clone, Copy)]
+pub(crate) struct Encoded {
+    pub bytes: [u8; 520],
+    pub at: usize,
 }
 
-fn put_signed(e: Encoded, z: i32) -> Encoded
-    requires { Room (write_signed z) e.at 520 }
-    ensures { result ≡ appended e (write_signed z) }
-{
-    put_number(e, number::field_of(z))
-}
-
-fn put_three(e: Encoded, x: u32, y: u32, z: u32) -> Encoded
-    requires { Room (write_three x y z) e.at 520 }
-    ensures { result ≡ appended e (write_three x y z) }
-{
-    let a = put_number(e, x);
-    let b = put_number(a, y);
-    put_number(b, z)
-}
-
-// A short job's bodies are not written.
-fn put_body(e: Encoded, form: Form, b: Body) -> Encoded
-    requires { Room (write_body form b) e.at 520 }
-    ensures { result ≡ appended e (write_body form b) }
-{
-    let Form::Long = form else {
-        return e;
-    };
-    put_three(e, b.front_overhang, b.rear_overhang, b.half_width)
-}
-
-fn put_unit(e: Encoded, form: Form, u: Unit) -> Encoded
-    requires { Room (write_unit form u) e.at 520 }
-    ensures { result ≡ appended e (write_unit form u) }
-{
-    let hitch = u.hitch;
-    let fold = u.fold;
-    let body = u.body;
-    let a = put_number(e, u.wheelbase);
-    let b = put_signed(a, hitch);
-    let d = put_signed(b, fold);
-    put_body(d, form, body)
-}
-
-fn put_units(e: Encoded, form: Form, units: [Unit; 4], count: usize) -> Encoded
-    requires { UnitsFit form units count e.at }
-    ensures { result ≡ appended e (write_many (write_unit form) (take count units)) }
-{
-    let mut out = e;
-    let mut i: usize = 0;
-    while i < count {
-        let u = units[i];
-        out = put_unit(out, form, u);
-        i += 1;
+impl Encoded {
+    fn put_number(&mut self, x: u32)
+        requires { Room (write_number x) self.old.at 520 }
+        ensures { self.new ≡ appended self.old (write_number x) }
+    {
+        self.at = number::write(&mut self.bytes, self.at, x);
     }
-    out
-}
 
-fn put_widths(e: Encoded, v: Vehicle) -> Encoded
-    requires { Room (write_widths v) e.at 520 }
-    ensures { result ≡ appended e (write_widths v) }
-{
-    put_three(e, v.overhang, v.front_half_width, v.rear_half_width)
-}
+    fn put_signed(&mut self, z: i32)
+        requires { Room (write_signed z) self.old.at 520 }
+        ensures { self.new ≡ appended self.old (write_signed z) }
+    {
+        self.put_number(number::field_of(z));
+    }
 
-fn put_start(e: Encoded, s: Start) -> Encoded
-    requires { Room (write_start s) e.at 520 }
-    ensures { result ≡ appended e (write_start s) }
-{
-    let x = s.x;
-    let y = s.y;
-    let gx = s.gx;
-    let gy = s.gy;
-    let a = put_signed(e, x);
-    let b = put_signed(a, y);
-    let d = put_signed(b, gx);
-    put_signed(d, gy)
+    fn put_three(&mut self, x: u32, y: u32, z: u32)
+        requires { Room (write_three x y z) self.old.at 520 }
+        ensures { self.new ≡ appended self.old (write_three x y z) }
+    {
+        self.put_number(x);
+        self.put_number(y);
+        self.put_number(z);
+    }
+
+    // A short job's bodies are not written.
+    fn put_body(&mut self, form: Form, b: Body)
+        requires { Room (write_body form b) self.old.at 520 }
+        ensures { self.new ≡ appended self.old (write_body form b) }
+    {
+        if form == Form::Long {
+            self.put_three(b.front_overhang, b.rear_overhang, b.half_width);
+        }
+    }
+
+    fn put_unit(&mut self, form: Form, u: Unit)
+        requires { Room (write_unit form u) self.old.at 520 }
+        ensures { self.new ≡ appended self.old (write_unit form u) }
+    {
+        self.put_number(u.wheelbase);
+        self.put_signed(u.hitch);
+        self.put_signed(u.fold);
+        self.put_body(form, u.body);
+    }
+
+    fn put_units(&mut self, form: Form, units: &[Unit])
+        requires { Room (write_many (write_unit form) units.now) self.old.at 520 }
+        ensures { self.new ≡ appended self.old (write_many (write_unit form) units.now) }
+    {
+        for u in units {
+            self.put_unit(form, *u);
+        }
+    }
+
+    fn put_widths(&mut self, v: Vehicle)
+        requires { Room (write_widths v) self.old.at 520 }
+        ensures { self.new ≡ appended self.old (write_widths v) }
+    {
+        self.put_three(v.overhang, v.front_half_width, v.rear_half_width);
+    }
+
+    fn put_start(&mut self, s: Start)
+        requires { Room (write_start s) self.old.at 520 }
+        ensures { self.new ≡ appended self.old (write_start s) }
+    {
+        self.put_signed(s.x);
+        self.put_signed(s.y);
+        self.put_signed(s.gx);
+        self.put_signed(s.gy);
+    }
+
+    fn put_element(&mut self, e: Element)
+        requires { ElementFits e self.old.at }
+        ensures { self.new ≡ appended self.old (write_element e) }
+    {
+        self.put_number(e.length);
+        self.put_number(radius_field(e.curve));
+    }
+
+    fn put_elements(&mut self, elements: &[Element])
+        requires { ElementsFit elements.now self.old.at }
+        ensures { self.new ≡ appended self.old (write_many write_element elements.now) }
+    {
+        for e in elements {
+            self.put_element(*e);
+        }
+    }
+
+    fn put_vehicle(&mut self, v: Vehicle)
+        requires { VehicleFits v self.old.at }
+        ensures { self.new ≡ appended self.old (write_vehicle v) }
+    {
+        self.put_number(announcing(v.form, v.count));
+        self.put_units(v.form, &v.units[..v.count]);
+        self.put_widths(v);
+    }
+
+    fn put_path(&mut self, j: Job)
+        requires { PathFits j self.old.at }
+        ensures { self.new ≡ appended self.old (write_path j) }
+    {
+        self.put_number(j.step);
+        self.put_number(j.count as u32);
+        self.put_elements(&j.elements[..j.count]);
+    }
 }
 
 // The field of a radius: positive to the right.
@@ -106,34 +134,9 @@ fn radius_field(curve: Curve) -> u32
 {
     match curve {
         Curve::Straight => 0,
-        Curve::Arc(side, radius) => match side {
-            Side::Right => 2 * radius,
-            Side::Left => 2 * radius - 1,
-        },
+        Curve::Arc(Side::Right, radius) => 2 * radius,
+        Curve::Arc(Side::Left, radius) => 2 * radius - 1,
     }
-}
-
-fn put_element(e: Encoded, x: Element) -> Encoded
-    requires { ElementFits x e.at }
-    ensures { result ≡ appended e (write_element x) }
-{
-    let curve = x.curve;
-    let a = put_number(e, x.length);
-    put_number(a, radius_field(curve))
-}
-
-fn put_elements(e: Encoded, elements: [Element; 64], count: usize) -> Encoded
-    requires { ElementsFit elements count e.at }
-    ensures { result ≡ appended e (write_many write_element (take count elements)) }
-{
-    let mut out = e;
-    let mut i: usize = 0;
-    while i < count {
-        let x = elements[i];
-        out = put_element(out, x);
-        i += 1;
-    }
-    out
 }
 
 // The number that announces so many units of a short or a long job.
@@ -148,41 +151,18 @@ fn announcing(form: Form, count: usize) -> u32
     }
 }
 
-fn put_vehicle(e: Encoded, v: Vehicle) -> Encoded
-    requires { VehicleFits v e.at }
-    ensures { result ≡ appended e (write_vehicle v) }
-{
-    let form = v.form;
-    let count = v.count;
-    let units = v.units;
-    let a = put_number(e, announcing(form, count));
-    let b = put_units(a, form, units, count);
-    put_widths(b, v)
-}
-
-fn put_path(e: Encoded, j: Job) -> Encoded
-    requires { PathFits j e.at }
-    ensures { result ≡ appended e (write_path j) }
-{
-    let count = j.count;
-    let elements = j.elements;
-    let a = put_number(e, j.step);
-    let b = put_number(a, count as u32);
-    put_elements(b, elements, count)
-}
-
 // A job without a fault, encoded.
 pub(crate) fn encode_job(j: Job) -> Encoded
     requires { Accepted j }
-    ensures { result ≡ appended nothing (write_job j) }
+    ensures whole { result ≡ appended nothing (write_job j) }
+    ensures within { result.at ≤ 520 }
 {
-    let a = put_vehicle(
-        Encoded {
-            bytes: [0u8; 520],
-            at: 0,
-        },
-        j.vehicle,
-    );
-    let b = put_start(a, j.start);
-    put_path(b, j)
+    let mut e = Encoded {
+        bytes: [0; 520],
+        at: 0,
+    };
+    e.put_vehicle(j.vehicle);
+    e.put_start(j.start);
+    e.put_path(j);
+    e
 }
