@@ -1,7 +1,7 @@
 -- On an arc the paper's formula is the turn by the half-angle tangent s / (2|r|), which is at most one half.
 use mathlib.Core.Path.{◌≡◌, refl, ap₂}
 use mathlib.Core.List.{List, [], ◌∷◌}
-use Prim.Native.Nat.{zero, suc, ◌*◌}
+use Prim.Native.Nat.{zero, suc}
 use lib.IntN.{ℤ, pos, negsuc, neg_ℤ, ◌+ℤ◌, ◌-ℤ◌, ◌*ℤ◌}
 use Rattle.exact.proofs.Polynomial.{Expr, ◌⊕◌, ◌⊖◌, ◌⊗◌, neg, con, lit, var, ring}
 use Rattle.heading.specs.Turn.{drawn_heading, ArcRule}

@@ -2,7 +2,7 @@
 use mathlib.Core.Path.{◌≡◌, refl, sym, ◌∙◌, ap, ap₂, subst}
 use mathlib.Core.Bool.{true, false}
 use mathlib.Core.List.{[], ◌∷◌}
-use Prim.Native.Nat.{ℕ, zero, suc, ◌≤◌, ◌*◌}
+use Prim.Native.Nat.{ℕ, zero, suc, ◌≤◌}
 use native.Mathlib.Omega.{arith}
 use borrow.Author.Tests.{leb-true, ltb-false, lt-ltb}
 use lib.Dec.{leb, ltb→lt, lit≤}
@@ -12,14 +12,13 @@ use lib.Signed.{◌≤ℤ◌, lt_z}
 use Rattle.exact.proofs.Order.{of_true, of_false, pos-≤, ≤-pos}
 use Rattle.exact.specs.Size.{Within}
 use Rattle.exact.proofs.NearestLaws.{nearest_bounded}
-use Rattle.exact.proofs.Sizes.{abs_neg, within_add, within_mul, ≤-size, ≥-size}
-use Rattle.exact.proofs.Machine.{Bounded, none, ◌∷ᵇ◌}
-use mir.Syntax.{w64}
-use mir.Val.{SFits}
+use Rattle.exact.proofs.Sizes.{abs_neg, within_add, within_mul, within_more, ≤-size, ≥-size}
+use Rattle.exact.proofs.Machine.{Bounded, none, ◌∷ᵇ◌, within_size_of}
+use Rattle.exact.proofs.Polynomial.{var, ◌⊕◌, ◌⊗◌}
+use Rattle.plane.specs.Vector.{plus, BothModerate, Scalable}
 use Rattle.number.proofs.FieldCodec.{both}
 use Rattle.plane.specs.declared.Vec2.{Vec2}
 use Rattle.plane.specs.Length.{heading_length, Near}
-use Rattle.job.specs.Allowed.{between}
 use Rattle.job.specs.Curves.{radius_allowed}
 use Rattle.heading.specs.Turn.{turned_by, heading_after, move_of, Tangent}
 use Rattle.heading.specs.PathTurn.{Steerable, Movable}
@@ -96,28 +95,29 @@ step_within (negsuc n) l m = absurd l.le
 pub steering_bounds : (g : Vec2) (s r : ℤ) → Steerable g s r → Bounded (20000 ∷ 1000000 ∷ []) (s ∷ r ∷ [])
 steering_bounds g s r t = step_within s t.least t.most ∷ᵇ radius_within r t.radius ∷ᵇ none
 
--- the move between two headings
-pub move_bounds : (g h : Vec2) (s : ℤ) → Movable g h s → Bounded (1000000 ∷ 1000000 ∷ 1000000 ∷ 1000000 ∷ 20000 ∷ []) (g.x ∷ g.y ∷ h.x ∷ h.y ∷ s ∷ [])
-move_bounds g h s t =
-    let a = heading_within g t.old in
-    let b = heading_within h t.new in
-    a.0 ∷ᵇ a.1 ∷ᵇ b.0 ∷ᵇ b.1 ∷ᵇ step_within s t.least t.most ∷ᵇ none
+-- the move between two headings: its numbers, their sum, and the multiple of it
+module _ {g h : Vec2} {s : ℤ} (t : Movable g h s) where
+  pub move_bounds : Bounded (1000000 ∷ 1000000 ∷ 1000000 ∷ 1000000 ∷ 20000 ∷ []) (g.x ∷ g.y ∷ h.x ∷ h.y ∷ s ∷ [])
+  move_bounds =
+      let a = heading_within g t.old in
+      let b = heading_within h t.new in
+      a.0 ∷ᵇ a.1 ∷ᵇ b.0 ∷ᵇ b.1 ∷ᵇ step_within s t.least t.most ∷ᵇ none
 
--- the opposite of a natural that fits, fits
-pub minus_fits : (n : ℕ) → SFits w64 (pos n) → SFits w64 (pos 0 -ℤ pos n)
-minus_fits zero f = f
-minus_fits (suc n) f = subst (SFits w64) (sym (+ℤ_idl (negsuc n))) (record { sfits = omega (arith, f.sfits) })
+  pub move_moderate : BothModerate g h
+  move_moderate =
+      let a = heading_within g t.old in
+      let b = heading_within h t.new in
+      record {
+        first = record { x = within_more (lit≤ tt) a.0; y = within_more (lit≤ tt) a.1 };
+        second = record { x = within_more (lit≤ tt) b.0; y = within_more (lit≤ tt) b.1 };
+      }
 
--- the test of a signed radius, by its size
-pub straight_allowed : (r : ℤ) → nat_abs r ≡ 0 → true ≡ radius_allowed r
-straight_allowed (pos zero) e = refl
-straight_allowed (pos (suc a)) e = absurd (omega arith)
-straight_allowed (negsuc a) e = absurd (omega arith)
-
-pub arc_allowed : (r : ℤ) → (nat_abs r ≡ 0 → ⊥) → between 20000 1000000 (nat_abs r) ≡ radius_allowed r
-arc_allowed (pos zero) f = absurd (f refl)
-arc_allowed (pos (suc a)) f = refl
-arc_allowed (negsuc a) f = refl
+  pub move_scalable : Scalable (plus g h) s (pos 2000000)
+  move_scalable = record {
+    x = within_more (lit≤ tt) (within_size_of move_bounds ((var 0 ⊕ var 2) ⊗ var 4));
+    y = within_more (lit≤ tt) (within_size_of move_bounds ((var 1 ⊕ var 3) ⊗ var 4));
+    divisor = record { positive = pos-≤ (lit≤ tt) };
+  }
 
 -- a move is no longer than its step, by coordinate
 pub move_within : (g h : Vec2) (s : ℕ) → Movable g h (pos s) → Within s (move_of g h (pos s)).x × Within s (move_of g h (pos s)).y

@@ -1,6 +1,6 @@
 -- Each requirement of this crate can be met, at the ends of its ranges too.
 use mathlib.Core.Path.{refl}
-use lib.IntN.{ℤ, pos, negsuc, ◌*ℤ◌}
+use lib.IntN.{pos, negsuc, ◌*ℤ◌}
 use lib.Signed.{le_z_yes}
 use Rattle.plane.specs.declared.Vec2.{Vec2}
 use Rattle.plane.specs.Length.{heading_length, Near}

@@ -5,9 +5,8 @@ use Rattle.plane.specs.declared.Vec2.{Vec2}
 use Rattle.plane.specs.Length.{heading_length, has_length, Near}
 use Rattle.job.specs.Allowed.{between}
 use Rattle.job.specs.Curves.{radius_allowed}
+use Rattle.refusal.specs.Numbers.{Answer, answered, refused}
 use Rattle.heading.specs.declared.Advance.{Advance}
-use Rattle.heading.specs.declared.PathTurn.{PathTurn}
-use Rattle.heading.specs.declared.PathTurn.TheVariants as P
 use Rattle.heading.specs.Turn.{heading_after, move_of}
 
 -- a step of length s on radius r: the new heading and the move
@@ -15,13 +14,13 @@ abbrev pub advance_of : Vec2 → ℤ → ℤ → Advance
 advance_of g s r = record { heading = heading_after g s r; shift = move_of g (heading_after g s r) s }
 
 -- 6 for a wrong heading, 7 for s outside 1 to 20,000, 8 for the radius
-unfoldable pub path_turn : Vec2 → ℕ → ℤ → PathTurn
+unfoldable pub path_turn : Vec2 → ℕ → ℤ → Answer Advance
 path_turn g s r =
     pick (has_length g heading_length)
     (pick (between 1 20000 s)
-    (pick (radius_allowed r) (P.Turned (advance_of g (pos s) r)) (P.Refused 8))
-    (P.Refused 7))
-    (P.Refused 6)
+    (pick (radius_allowed r) (answered (advance_of g (pos s) r)) (refused 8))
+    (refused 7))
+    (refused 6)
 
 -- what a step on the path asks, once it has been tested
 pub record Steerable (g : Vec2) (s r : ℤ) : Type 0 where

@@ -3,12 +3,14 @@
 
 ghost use Rattle.std.specs.Prelude.{◌≡◌};
 ghost use Rattle.job.specs.Curves.{radius_of, radius_allowed};
+ghost use Rattle.refusal.specs.Numbers.{as_answer};
 ghost use Rattle.heading.specs.Turn.{turned_by, Tangent, heading_after, move_of, ArcRule, TangentRule};
 ghost use Rattle.heading.specs.PathTurn.{advance_of, path_turn, Steerable, Movable};
 
 use job::{Curve, Side};
 use number::Range;
 use plane::Vec2;
+use refusal::Fault;
 
 // The steps that the path turn takes by itself.
 const STEP_ALONE: Range = Range {
@@ -17,16 +19,10 @@ const STEP_ALONE: Range = Range {
 };
 
 // The heading after a step, and the move along the path.
-#[derive(Clone, Copy)]
+#[derive(Clone, Copy, PartialEq, Eq)]
 pub struct Advance {
     pub heading: Vec2,
     pub shift: Vec2,
-}
-
-#[derive(Clone, Copy)]
-pub enum PathTurn {
-    Turned(Advance),
-    Refused(u8),
 }
 
 // g turned to the right by the half-angle tangent p / q.
@@ -34,13 +30,11 @@ fn turn_heading(g: Vec2, p: i64, q: i64) -> Vec2
     requires { Tangent g p q }
     ensures { result ≡ turned_by g p q }
 {
-    let x = g.x;
-    let y = g.y;
     let a = q * q - p * p;
     let b = 2 * p * q;
     let w = Vec2 {
-        x: x * a + y * b,
-        y: y * a + -x * b,
+        x: g.x * a + g.y * b,
+        y: g.y * a + -g.x * b,
     };
     plane::draw(w, q * q + p * p, 1000000)
 }
@@ -64,15 +58,7 @@ fn move_along(g: Vec2, h: Vec2, s: i64) -> Vec2
     requires { Movable g h s }
     ensures { result ≡ move_of g h s }
 {
-    let gx = g.x;
-    let gy = g.y;
-    let hx = h.x;
-    let hy = h.y;
-    let scaled = Vec2 {
-        x: (gx + hx) * s,
-        y: (gy + hy) * s,
-    };
-    plane::nearest_vector(scaled, 2000000)
+    plane::scaled(plane::plus(g, h), s, 2000000)
 }
 
 // A step of length s on radius r from the heading g.
@@ -91,10 +77,8 @@ pub fn radius_of(curve: Curve) -> i64
 {
     match curve {
         Curve::Straight => 0,
-        Curve::Arc(side, radius) => match side {
-            Side::Right => exact::wide(radius),
-            Side::Left => -exact::wide(radius),
-        },
+        Curve::Arc(Side::Right, radius) => i64::from(radius),
+        Curve::Arc(Side::Left, radius) => -i64::from(radius),
     }
 }
 
@@ -112,28 +96,21 @@ pub fn arc_rule()
 fn radius_allowed(r: i32) -> bool
     ensures { result ≡ radius_allowed r }
 {
-    let size = number::size_of(r);
-    if size == 0 {
-        return true;
-    }
-    number::is_within(job::RADIUS, size)
+    r == 0 || number::is_within(job::RADIUS, r.unsigned_abs())
 }
 
 // The path turn, called by itself: the heading g after a step of length s on the signed radius r, and the move.
-pub fn turn_path(g: Vec2, s: u32, r: i32) -> PathTurn
-    ensures { result ≡ path_turn g s r }
+pub fn turn_path(g: Vec2, s: u32, r: i32) -> Result<Advance, Fault>
+    ensures { as_answer result ≡ path_turn g s r }
 {
-    let heading = plane::has_length(g, 1000000);
-    let step = number::is_within(STEP_ALONE, s);
-    let radius = radius_allowed(r);
-    if !heading {
-        return PathTurn::Refused(6);
+    if !plane::has_length(g, 1000000) {
+        return Err(Fault::Start);
     }
-    if !step {
-        return PathTurn::Refused(7);
+    if !number::is_within(STEP_ALONE, s) {
+        return Err(Fault::Step);
     }
-    if !radius {
-        return PathTurn::Refused(8);
+    if !radius_allowed(r) {
+        return Err(Fault::Element);
     }
-    PathTurn::Turned(path_step(g, exact::wide(s), exact::wide_signed(r)))
+    Ok(path_step(g, i64::from(s), i64::from(r)))
 }
