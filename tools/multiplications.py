@@ -13,9 +13,11 @@ ROOT = Path(__file__).resolve().parent.parent
 MIRROR = ("unit", "mirror")
 PRODUCT = (MIRROR, "product")
 PRODUCT_SIGNATURE = "( a : u32 , b : u32 ) -> u64"
-PRODUCT_BODY = "( a as u64 ) * ( b as u64 )"
+PRODUCT_BODY = "u64 :: from ( a ) * u64 :: from ( b )"
 # What ties the image to mirror.rt: the drawn rule settles what is worked out there, and nothing else.
-TURNED_BODY = "let e = mirror :: mirrored_vector ( d , f ) ; plane :: settle ( e , l )"
+TURNED_BODY = "plane :: settle ( mirror :: mirrored_vector ( d , f ) , l )"
+# What of the standard library may be called: the size of a whole number, and a whole number in a wider type; neither multiplies.
+PLAIN = {(".unsigned_abs",), *((kind, "from") for kind in WHOLE_TYPES)}
 LOOPS = {"while", "loop", "for"}
 WHOLE_NUMBER = re.compile(r"[0-9_]+([iu](8|16|32|64|128|size))?")
 # What may follow an operand that is a literal and no more.
@@ -72,6 +74,8 @@ class Source:
             raise Forbidden(f"{told(function)} calls itself")
         found = [function]
         for path in calls_of(self.function(function).body):
+            if tuple(path) in PLAIN:
+                continue
             for other in self.reached(self.callee(function, path), (*above, function)):
                 if other not in found:
                     found.append(other)

@@ -11,8 +11,7 @@ fn squared(a: i64) -> i64 { a * a }
 pub fn turned(d: Vec2, f: Vec2, l: i64) -> Vec2
     requires { ⌜ Turnable d f l ⌝ }
 {
-    let e = mirror::mirrored_vector(d, f);
-    plane::settle(e, l)
+    plane::settle(mirror::mirrored_vector(d, f), l)
 }
 """,
     MIRROR: """
@@ -22,7 +21,7 @@ ghost use Prim.Native.Nat.{_*_};
 fn product(a: u32, b: u32) -> u64
     ensures { λ r. ⌜ r ≡ a * b ⌝ }
 {
-    (a as u64) * (b as u64)
+    u64::from(a) * u64::from(b)
 }
 fn long_product(a: u32, b: u64) -> u64
     requires { ⌜ a * b < 2 ^ 64 ⌝ }
@@ -60,8 +59,8 @@ SUM = "    let x = d.x + f.x;\n"
 HALF = "fn half(a: u64) -> u64 { a }"
 SHIFT = "(product(a, high) << 32)"
 CONTRACT = "    ensures { λ r. ⌜ r ≡ mirrored d f ⌝ }\n"
-NOT_THE_PRODUCT = "product must read ( a : u32 , b : u32 ) -> u64 { ( a as u64 ) * ( b as u64 ) }"
-NOT_TIED = "turned must read let e = mirror :: mirrored_vector ( d , f ) ; plane :: settle ( e , l )"
+NOT_THE_PRODUCT = "product must read ( a : u32 , b : u32 ) -> u64 { u64 :: from ( a ) * u64 :: from ( b ) }"
+NOT_TIED = "turned must read plane :: settle ( mirror :: mirrored_vector ( d , f ) , l )"
 NOT_THE_SHIFT = "unit::mirror::long_product shifts left what is no product, or by more than a literal"
 IMPORT = "use plane::Vec2;"
 
@@ -76,6 +75,9 @@ ACCEPTED = [
     ("a test and a negation", MIRROR, SUM, SUM + "    if !(d.x < 0) { return -(d.x); }\n"),
     ("a division where the image is rounded", EXACT, "n / d", "n / d / d"),
     ("the parts taken otherwise", MIRROR, "b >> 32", "b / 4294967296", "b % 4294967296", "b & 4294967295"),
+    ("the size of a number", MIRROR, "half(long_product(7, 9))", "half(long_product(7, d.x.unsigned_abs()))"),
+    ("a number in a wider type", MIRROR, "half(long_product(7, 9))", "half(u64::from(d.x as u32))"),
+    ("a type that compares by derive", PLANE, "pub struct", "#[derive(Clone, Copy, PartialEq, Eq)]\npub struct"),
     ("the shift at the end of a block", MIRROR, SHIFT, "(if a < 1 { 0 } else { product(a, high) << 32 })"),
 ]
 
@@ -103,13 +105,13 @@ PRODUCTS = [
 THE_PRODUCT = [
     ("i64 in place of u32", MIRROR, "product(a: u32, b: u32) -> u64", "product(a: i64, b: i64) -> i64", NOT_THE_PRODUCT),
     ("one operand of 64 bits", MIRROR, "product(a: u32, b: u32)", "product(a: u32, b: u64)", NOT_THE_PRODUCT),
-    ("a second multiplication", MIRROR, "* (b as u64)", "* (b as u64) * 1", NOT_THE_PRODUCT),
+    ("a second multiplication", MIRROR, "* u64::from(b)", "* u64::from(b) * 1", NOT_THE_PRODUCT),
     ("another name", MIRROR, "fn product(", "fn times(", NOT_THE_PRODUCT),
     ("another meaning of u32", MIRROR, IMPORT, IMPORT + "\ntype u32 = u64;", "type begins no item that is followed"),
     ("another u32 brought in", MIRROR, IMPORT, IMPORT + "\nuse plane::u32;", "u32 is a type of numbers"),
     ("two of the name", MIRROR, HALF, HALF + "\nfn product(a: i64, b: i64) -> i64 { a }", "product is named twice"),
     ("the image settled elsewhere", UNIT, "mirror::mirrored_vector(d, f)", "mirrored_here(d, f)", NOT_TIED),
-    ("the image multiplied before it is settled", UNIT, "plane::settle(e, l)", "plane::settle(scaled(e), l)", NOT_TIED),
+    ("the image multiplied before it is settled", UNIT, "plane::settle(mirror::mirrored_vector(d, f), l)", "plane::settle(scaled(mirror::mirrored_vector(d, f)), l)", NOT_TIED),
     ("another module of the name", UNIT, "mod mirror;", "use plane::mirror;", NOT_TIED),
 ]
 
@@ -117,6 +119,8 @@ CALLS = [
     ("a multiplying method", MIRROR, "d.x + f.x", "d.x.wrapping_mul(f.x)", "unit::mirror::mirrored_vector calls .wrapping_mul, which is not read"),
     ("a method of a pair's part", MIRROR, "d.x + f.x", "d.0.pow(2)", "unit::mirror::mirrored_vector calls .pow, which is not read"),
     ("a multiplying function of a type", MIRROR, "d.x + f.x", "i64::pow(d.x, 2)", "unit::mirror::mirrored_vector calls i64::pow, which is not read"),
+    ("a conversion of its own", MIRROR, "d.x + f.x", "Wide::from(d.x)", "unit::mirror::mirrored_vector calls Wide::from, which is not read"),
+    ("another type's size", MIRROR, "d.x + f.x", "Wide::unsigned_abs(d.x)", "unit::mirror::mirrored_vector calls Wide::unsigned_abs, which is not read"),
     ("plane's wide dot product", MIRROR, "d.x + f.x", "plane::dot(d, f)", "plane::dot has *"),
     ("the same under an imported name", MIRROR, SUM, SUM + "    dot(d, f);\n", "plane::dot has *", IMPORT, IMPORT + "\nuse plane::dot;"),
     ("a function of the crate's root", MIRROR, "d.x + f.x", "crate::squared(d.x)", "unit::mirror::mirrored_vector calls crate::squared, which is not read"),

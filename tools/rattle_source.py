@@ -4,7 +4,7 @@ import re
 from dataclasses import dataclass, field
 
 TOKEN = re.compile(
-    r"""(?P<space>\s+|\#!\[tactic\(auto\)\]|\#\[derive\(Clone,\ Copy\)\])
+    r"""(?P<space>\s+|\#!\[tactic\(auto\)\]|\#\[derive\(Clone,\ Copy(?:,\ PartialEq,\ Eq)?\)\])
     |(?P<comment>//[^\n]*)
     |(?P<unread>/\*|--|\{-|["'`#])
     |(?P<number>\d\w*(?:\.\d\w*)?)

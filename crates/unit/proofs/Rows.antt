@@ -5,7 +5,7 @@ use lib.IntN.{ℤ, pos, negsuc}
 use Rattle.exact.specs.Nearest.{half_to, nearest_size, nearest_z}
 use Rattle.plane.specs.declared.Vec2.{Vec2}
 use Rattle.plane.specs.Length.{has_length}
-use Rattle.unit.specs.declared.UnitTurn.TheVariants as U
+use Rattle.refusal.specs.Numbers.{answered}
 use Rattle.unit.specs.Turn.{turned_by, too_far, unit_turn}
 use Rattle.unit.specs.Coupling.{fold_allowed}
 
@@ -13,8 +13,8 @@ abbrev vec : ℤ → ℤ → Vec2
 vec a b = record { x = a; y = b }
 
 pub record Rows : Type 0 where
-  pub turned : unit_turn (vec (pos 0) (pos 50000)) (vec (pos 30000) (negsuc 9999)) 50000 ≡ U.Turned (vec (pos 30000) (pos 40000))
-  pub straight : unit_turn (vec (pos 0) (pos 50000)) (vec (pos 0) (pos 5000)) 50000 ≡ U.Turned (vec (pos 0) (pos 50000))
+  pub turned : unit_turn (vec (pos 0) (pos 50000)) (vec (pos 30000) (negsuc 9999)) 50000 ≡ answered (vec (pos 30000) (pos 40000))
+  pub straight : unit_turn (vec (pos 0) (pos 50000)) (vec (pos 0) (pos 5000)) 50000 ≡ answered (vec (pos 0) (pos 50000))
   pub square : fold_allowed (vec (pos 0) (pos 50000)) (vec (pos 50000) (pos 0)) (pos 0) (pos 50000) (pos 50000) ≡ true
   pub folded : fold_allowed (vec (pos 0) (pos 50000)) (vec (pos 50000) (negsuc 0)) (pos 0) (pos 50000) (pos 50000) ≡ false
 

@@ -4,16 +4,17 @@ use lib.Dec.{lit≤}
 use lib.IntN.{ℤ, pos, neg_ℤ, ◌+ℤ◌, ◌*ℤ◌}
 use lib.Signed.{◌≤ℤ◌, ≤ℤ_refl}
 use Rattle.exact.specs.Size.{Within}
+use Rattle.exact.specs.Nearest.{Divisor}
 use Rattle.exact.proofs.Polynomial.{◌⊕◌, ◌⊗◌, neg, lit, var}
 use Rattle.exact.proofs.Order.{pos-≤}
 use Rattle.exact.proofs.Certificate.{◌⊞◌, ◌·◌, num, hyp, le}
-use Rattle.exact.proofs.Sizes.{within, within_more}
+use Rattle.exact.proofs.Sizes.{within, within_more, within_mul}
 use Rattle.plane.specs.declared.Vec2.{Vec2}
-use Rattle.plane.specs.Vector.{norm_sq}
+use Rattle.plane.specs.Vector.{norm_sq, BothModerate, Scalable}
 use Rattle.plane.specs.Length.{heading_length, Near}
 use Rattle.plane.proofs.Lengths.{coordinates}
 use Rattle.unit.specs.Turn.{Wheelbase, Placeable, Turnable, UnitSized, Mirrorable}
-use Rattle.unit.specs.Coupling.{Hitched, Coupled, Scalable}
+use Rattle.unit.specs.Coupling.{Hitched, Coupled}
 use Rattle.unit.proofs.Turning.{line_positive}
 
 -- a wheelbase, and whatever is no larger
@@ -70,12 +71,22 @@ pub turnable_mirrorable : (d f : Vec2) (l : ℤ) → Turnable d f l → Mirrorab
 turnable_mirrorable d f l t =
     record { vector = near_sized t.wheelbase t.near; move = move_sized t.wheelbase f t.move; line = line_positive d f l t }
 
--- what the multiples of vectors ask
+-- what the multiples of vectors ask: coordinates up to a heading's, and a factor up to the greatest wheelbase
+multiple : {v : Vec2} {n q : ℤ} → Within 1000000 v.x → Within 1000000 v.y → Within 200000 n → Divisor q → Scalable v n q
+multiple x y n q = record { x = within_more (lit≤ tt) (within_mul x n); y = within_more (lit≤ tt) (within_mul y n); divisor = q }
+
 pub hitched_scalable : {d : Vec2} {h l : ℤ} → Hitched d h l → Scalable d h l
-hitched_scalable p =
-    record { x = within_more (lit≤ tt) p.vector.x; y = within_more (lit≤ tt) p.vector.y; factor = p.hitch; divisor = p.wheelbase }
+hitched_scalable p = multiple (within_more (lit≤ tt) p.vector.x) (within_more (lit≤ tt) p.vector.y) p.hitch p.wheelbase
 
 pub placeable_scalable : {g : Vec2} {l : ℤ} → Placeable g l → Scalable g l heading_length
 placeable_scalable {g} {l} p =
     let s = coordinates g.x g.y heading_length (pos-≤ (lit≤ tt)) p.heading.high in
-    record { x = within s.0 s.1; y = within s.2 s.3; factor = wheelbase_sized p.wheelbase; divisor = record { positive = pos-≤ (lit≤ tt) } }
+    multiple (within s.0 s.1) (within s.2 s.3) (wheelbase_sized p.wheelbase) (record { positive = pos-≤ (lit≤ tt) })
+
+-- what the dot product of a unit's vector or move asks
+pub sized_moderate : {a d : Vec2} → UnitSized a → UnitSized d → BothModerate a d
+sized_moderate a d =
+    record {
+      first = record { x = within_more (lit≤ tt) a.x; y = within_more (lit≤ tt) a.y };
+      second = record { x = within_more (lit≤ tt) d.x; y = within_more (lit≤ tt) d.y };
+    }

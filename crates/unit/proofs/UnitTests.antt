@@ -10,9 +10,9 @@ use Rattle.exact.proofs.Order.{of_true, lt_z_false}
 use Rattle.plane.specs.declared.Vec2.{Vec2}
 use Rattle.plane.specs.Vector.{norm_sq}
 use Rattle.plane.specs.Wheelbase.{is_wheelbase}
-use Rattle.plane.specs.Length.{has_length}
-use Rattle.plane.proofs.Lengths.{near_of, box, in_box}
-use Rattle.unit.specs.declared.UnitTurn.TheVariants as U
+use Rattle.plane.specs.Length.{in_box, has_length}
+use Rattle.plane.proofs.Lengths.{near_of, short_in_box}
+use Rattle.refusal.specs.Numbers.{answered, refused}
 use Rattle.unit.specs.Turn.{turned_by, too_far, unit_turn, Wheelbase, Turnable}
 use Rattle.unit.proofs.Turning.{wheelbase_nominal}
 use Rattle.unit.proofs.UnitSizes.{move_short}
@@ -49,12 +49,12 @@ of_move f l h = by (too_far f l) refl
     by false e = refl
 
 -- a coordinate beyond the wheelbase is too far
-pub outside_far : (f : Vec2) (l : ℤ) → Wheelbase l → box f.x f.y l ≡ false → too_far f l ≡ true
+pub outside_far : (f : Vec2) (l : ℤ) → Wheelbase l → in_box f l ≡ false → too_far f l ≡ true
 outside_far f l w e = by (too_far f l) refl
   where
     by : (t : Bool) → too_far f l ≡ t → t ≡ true
     by true h = refl
-    by false h = sym e ∙ in_box f l (wheelbase_nominal w) (move_short w f (move_of_lem f l h))
+    by false h = sym e ∙ short_in_box f l (wheelbase_nominal w) (move_short w f (move_of_lem f l h))
 
 -- the tests of a turn, passed
 pub turnable_of : (d f : Vec2) (l : ℤ) → Wheelbase l → has_length d l ≡ true → too_far f l ≡ false → Turnable d f l
@@ -62,18 +62,18 @@ turnable_of d f l w n m = record { wheelbase = w; near = near_of d l n; move = m
 
 -- the answers of the entry, test by test
 module _ (d f : Vec2) (l : ℕ) where
-  pub refused_wheelbase : is_wheelbase l ≡ false → unit_turn d f l ≡ U.Refused 27
+  pub refused_wheelbase : is_wheelbase l ≡ false → unit_turn d f l ≡ refused 27
   unfolding unit_turn
   refused_wheelbase w = rw w
 
-  pub refused_length : has_length d (pos l) ≡ false → is_wheelbase l ≡ true → unit_turn d f l ≡ U.Refused 27
+  pub refused_length : has_length d (pos l) ≡ false → is_wheelbase l ≡ true → unit_turn d f l ≡ refused 27
   unfolding unit_turn
   refused_length n w = rw (w, n)
 
-  pub refused_far : too_far f (pos l) ≡ true → is_wheelbase l ≡ true → has_length d (pos l) ≡ true → unit_turn d f l ≡ U.Refused 22
+  pub refused_far : too_far f (pos l) ≡ true → is_wheelbase l ≡ true → has_length d (pos l) ≡ true → unit_turn d f l ≡ refused 22
   unfolding unit_turn
   refused_far m w n = rw (w, n, m)
 
-  pub accepted : too_far f (pos l) ≡ false → is_wheelbase l ≡ true → has_length d (pos l) ≡ true → unit_turn d f l ≡ U.Turned (turned_by d f (pos l))
+  pub accepted : too_far f (pos l) ≡ false → is_wheelbase l ≡ true → has_length d (pos l) ≡ true → unit_turn d f l ≡ answered (turned_by d f (pos l))
   unfolding unit_turn
   accepted m w n = rw (w, n, m)

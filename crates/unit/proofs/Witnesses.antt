@@ -6,7 +6,7 @@ use lib.Dec.{lit≤}
 use Rattle.exact.proofs.Witnesses.{divisor_met}
 use Rattle.plane.specs.declared.Vec2.{Vec2}
 use Rattle.unit.specs.Turn.{Wheelbase, Placeable, Turnable, UnitSized, Mirrorable}
-use Rattle.unit.specs.Coupling.{Hitched, Coupled, Scalable}
+use Rattle.unit.specs.Coupling.{Hitched, Coupled}
 use Rattle.unit.specs.Products.{LongProduct, SizeOfProduct, ShortFactors, LongFactors, ShortVector, Dotted, Imaged}
 use Rattle.unit.proofs.UnitSizes.{turnable_mirrorable}
 
@@ -44,9 +44,6 @@ coupled_met =
       wheelbase_ahead = record { size = lit≤ tt };
       wheelbase_behind = record { size = lit≤ tt };
     }
-
-scalable_met : Scalable (vec (pos 1000000) (negsuc 999999)) (negsuc 199999) (pos 1)
-scalable_met = record { x = record { size = lit≤ tt }; y = record { size = lit≤ tt }; factor = record { size = lit≤ tt }; divisor = divisor_met }
 
 -- the products of the mirror image: the longest, and the largest with a sign
 long_product_met : LongProduct 4294967295 4294967296

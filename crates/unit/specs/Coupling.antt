@@ -34,13 +34,6 @@ pub record Coupled (a d : Vec2) (limit la ld : ℤ) : Type 0 where
   pub wheelbase_ahead : Within wheelbase_most la
   pub wheelbase_behind : Within wheelbase_most ld
 
--- what a multiple of a vector, v × n / q, asks: a heading times a wheelbase, or a unit's vector times a hitch
-pub record Scalable (v : Vec2) (n q : ℤ) : Type 0 where
-  pub x : Within 1000000 v.x
-  pub y : Within 1000000 v.y
-  pub factor : Within wheelbase_most n
-  pub divisor : Divisor q
-
 -- the claim of the hitch, which pins its sign: the whole wheelbase ahead of the rear axle lies the front point, at no distance the axle,
 -- and a hitch behind the axle lies just opposite the one as far ahead of it
 pub record HitchRule : Type 0 where

@@ -9,8 +9,7 @@ pub use Rattle.plane.specs.Wheelbase.{Wheelbase}
 use Rattle.plane.specs.Length.{heading_length, has_length, Near}
 use Rattle.plane.specs.Settle.{settle_z}
 use Rattle.plane.specs.Drawn.{Kept}
-use Rattle.unit.specs.declared.UnitTurn.{UnitTurn}
-use Rattle.unit.specs.declared.UnitTurn.TheVariants as U
+use Rattle.refusal.specs.Numbers.{Answer, answered, refused}
 
 -- at the start: nearest L × g / N, for the heading g
 unfoldable pub placed_by : Vec2 → ℤ → Vec2
@@ -37,11 +36,11 @@ unfoldable pub too_far : Vec2 → ℤ → Bool
 too_far f l = lt_z (l *ℤ l) (norm_sq f)
 
 -- the single unit's turn: 27 for a wheelbase out of range or |d|² off L² by more than 2L, then 22, then the turned vector
-unfoldable pub unit_turn : Vec2 → Vec2 → ℕ → UnitTurn
+unfoldable pub unit_turn : Vec2 → Vec2 → ℕ → Answer Vec2
 unit_turn d f l =
     cond (is_wheelbase l && has_length d (pos l))
-    (cond (too_far f (pos l)) (U.Refused 22) (U.Turned (turned_by d f (pos l))))
-    (U.Refused 27)
+    (cond (too_far f (pos l)) (refused 22) (answered (turned_by d f (pos l))))
+    (refused 27)
 
 -- what a placed vector asks: |g|² differs from N² by at most 2N
 pub record Placeable (g : Vec2) (l : ℤ) : Type 0 where

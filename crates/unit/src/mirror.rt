@@ -1,17 +1,16 @@
 // The mirror image of a unit: its new direction, before it is settled to its length.
 // The counter terminals multiply only two numbers of 32 bits in one go (02, N2), so `product` holds the only multiplication, and all others are put together from it.
-ghost use Rattle.std.specs.Prelude.{◌≡◌, ◌*◌, nat_abs, ◌-ℤ◌, ◌*ℤ◌};
-ghost use Rattle.exact.specs.Size.{Within};
+ghost use Rattle.std.specs.Prelude.{◌≡◌, ◌*◌, ◌-ℤ◌, ◌*ℤ◌};
 ghost use Rattle.plane.specs.Vector.{dot as dot_z};
 ghost use Rattle.unit.specs.Turn.{mirrored, Mirrorable};
-ghost use Rattle.unit.specs.Products.{long_most, LongProduct, SizeOfProduct, ShortFactors, LongFactors, Dotted, Imaged};
+ghost use Rattle.unit.specs.Products.{LongProduct, SizeOfProduct, ShortFactors, LongFactors, Dotted, Imaged};
 
 use plane::Vec2;
 
 fn product(a: u32, b: u32) -> u64
     ensures { result ≡ a * b }
 {
-    (a as u64) * (b as u64)
+    u64::from(a) * u64::from(b)
 }
 
 // a × b, where b may be longer than 32 bits: it goes in two parts, and their products are put together.
@@ -22,17 +21,6 @@ fn long_product(a: u32, b: u64) -> u64
     let high = (b >> 32) as u32;
     let low = (b % 4294967296) as u32;
     (product(a, high) << 32) + product(a, low)
-}
-
-// How large z is, without its sign.
-fn size(z: i64) -> u64
-    requires { Within long_most z }
-    ensures { result ≡ nat_abs z }
-{
-    if z < 0 {
-        return (-z) as u64;
-    }
-    z as u64
 }
 
 // n, the product of the sizes of a and b, with the sign of a × b.
@@ -48,11 +36,12 @@ fn with_sign(n: u64, a: i64, b: i64) -> i64
 }
 
 // a × b, neither longer than 32 bits.
+// Kept: `long_times` would do, with a second multiplication for each of the terminals' four short products.
 fn short_times(a: i64, b: i64) -> i64
     requires { ShortFactors a b }
     ensures { result ≡ a *ℤ b }
 {
-    let n = product(size(a) as u32, size(b) as u32);
+    let n = product(a.unsigned_abs() as u32, b.unsigned_abs() as u32);
     with_sign(n, a, b)
 }
 
@@ -61,20 +50,17 @@ fn long_times(a: i64, b: i64) -> i64
     requires { LongFactors a b }
     ensures { result ≡ a *ℤ b }
 {
-    let n = long_product(size(a) as u32, size(b));
+    let n = long_product(a.unsigned_abs() as u32, b.unsigned_abs());
     with_sign(n, a, b)
 }
 
-// a · b by short products, where `plane::dot` has wide ones.
+// a · b by short products.
+// Kept: `plane::dot` has wide ones, which the counter terminals cannot do in one go.
 fn dot(a: Vec2, b: Vec2) -> i64
     requires { Dotted a b }
     ensures { result ≡ dot_z a b }
 {
-    let ax = a.x;
-    let ay = a.y;
-    let bx = b.x;
-    let by = b.y;
-    short_times(ax, bx) + short_times(ay, by)
+    short_times(a.x, b.x) + short_times(a.y, b.y)
 }
 
 // A coordinate of 2(m·d)m − |m|²d, from those of m and d.
@@ -90,17 +76,16 @@ pub(crate) fn mirrored_vector(d: Vec2, f: Vec2) -> Vec2
     requires { Mirrorable d f }
     ensures { result ≡ mirrored d f }
 {
-    let dx = d.x;
-    let dy = d.y;
-    let fx = f.x;
-    let fy = f.y;
-    let mx = dx + dx + fx;
-    let my = dy + dy + fy;
-    let m = Vec2 { x: mx, y: my };
+    let m = Vec2 {
+        x: d.x + d.x + f.x,
+        y: d.y + d.y + f.y,
+    };
     let md = dot(m, d);
     let along = md + md;
     let mm = dot(m, m);
-    let wx = image_coordinate(mx, along, dx, mm);
-    let wy = image_coordinate(my, along, dy, mm);
-    plane::nearest_vector(Vec2 { x: wx, y: wy }, mm)
+    let w = Vec2 {
+        x: image_coordinate(m.x, along, d.x, mm),
+        y: image_coordinate(m.y, along, d.y, mm),
+    };
+    plane::nearest_vector(w, mm)
 }

@@ -3,8 +3,8 @@ use mathlib.Core.Path.{◌≡◌, sym, ◌∙◌, ap₂, subst₂}
 use borrow.Author.Rules.{rules}
 use lib.IntN.{ℤ}
 use Rattle.exact.proofs.Machine.{reread}
-use Rattle.plane.specs.Vector.{times, nearest_v}
-use Rattle.unit.specs.Coupling.{hitch_offset, Scalable}
+use Rattle.plane.specs.Vector.{times, nearest_v, Scalable}
+use Rattle.unit.specs.Coupling.{hitch_offset}
 use Rattle.unit.proofs.UnitSizes.{hitched_scalable}
 use Rattle.unit.proofs.hitch_offset.Goals as goal
 use Rattle.unit.proofs.hitch_offset.Goals.{Start}
@@ -17,7 +17,7 @@ module _ (c : Start) where
   exact_l = search rules
 
 pub scaled-requires : goal.scaled-requires
-scaled-requires c = subst₂ (λ (n q : ℤ). Scalable c.args.d n q) (sym (exact_h c)) (sym (exact_l c)) (hitched_scalable c.requires)
+scaled-requires c = subst₂ (Scalable c.args.d) (sym (exact_h c)) (sym (exact_l c)) (hitched_scalable c.requires)
 
 pub returns : goal.returns
 unfolding hitch_offset

@@ -4,9 +4,8 @@ use borrow.Author.Rules.{rules}
 use lib.IntN.{ℤ}
 use Rattle.exact.proofs.Machine.{reread}
 use Rattle.plane.specs.Length.{heading_length}
-use Rattle.plane.specs.Vector.{times, nearest_v}
+use Rattle.plane.specs.Vector.{times, nearest_v, Scalable}
 use Rattle.unit.specs.Turn.{placed_by}
-use Rattle.unit.specs.Coupling.{Scalable}
 use Rattle.unit.proofs.UnitSizes.{placeable_scalable}
 use Rattle.unit.proofs.placed.Goals as goal
 use Rattle.unit.proofs.placed.Goals.{Start}

@@ -12,13 +12,13 @@ use Rattle.unit.proofs.turned.Goals.{Start}
 exact_l : (c : Start) → reread c.args.l ≡ c.args.l
 exact_l c = search rules
 
-pub mirrored_vector-e-requires : goal.mirrored_vector-e-requires
-mirrored_vector-e-requires c = turnable_mirrorable c.args.d c.args.f c.args.l c.requires
+pub mirrored_vector-requires : goal.mirrored_vector-requires
+mirrored_vector-requires c = turnable_mirrorable c.args.d c.args.f c.args.l c.requires
 
 pub settle-requires : goal.settle-requires
 settle-requires c =
     let s = c.before in
-    subst₂ Settleable (sym c.mirrored_vector-e.ensures) (sym (exact_l s)) (mirrored_settleable s.args.d s.args.f s.args.l s.requires)
+    subst₂ Settleable (sym c.mirrored_vector.ensures) (sym (exact_l s)) (mirrored_settleable s.args.d s.args.f s.args.l s.requires)
 
 pub returns : goal.returns
 unfolding turned_by
