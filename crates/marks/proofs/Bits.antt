@@ -1,19 +1,21 @@
 -- The bits of a mark: setting one adds its power of two where it is clear, and no other bit changes.
-use Prim.Native.Nat.{ℕ, zero, suc, ◌+◌, ◌*◌, ◌-◌, ◌/◌, ◌%◌, ◌^◌, ◌≤◌, ◌<◌}
+use Prim.Native.Nat.{ℕ, ◌+◌, ◌*◌, ◌-◌, ◌/◌, ◌%◌, ◌^◌, ◌≤◌, ◌<◌}
 use mathlib.Core.Path.{◌≡◌, refl, sym, ◌∙◌, ap}
 use mathlib.Core.Bool.{Bool, true, false}
 use native.Mathlib.Nat as NatL
 use native.Mathlib.Omega.{arith}
 use native.Mathlib.Decide.{dec_le}
-use borrow.Author.Tests.{eqb-false, eq-eqb}
-use lib.Dec.{eqb, lit<}
-use lib.Pow.{pow-add, pow_pos, shl_exact, split}
+use borrow.Author.Tests.{eqb-true, eqb-false, eq-eqb}
+use lib.Dec.{eqb}
+use lib.Pow.{pow-add, pow_pos, split}
+use mathlib.Core.Logic.{⊎_elim}
+use mir.Syntax.{w32}
+use Rattle.std.specs.Int.{bit_at}
+use Rattle.std.specs.Prelude.{bit_or}
+use Rattle.std.proofs.lemmas.Bool.{cases_eq}
+use Rattle.std.proofs.lemmas.Nat.Bits.{bit_at_set_same, bit_at_set_other, bit_at-lt, same_from_bits}
 use Rattle.number.specs.Read.{pick}
-use Rattle.marks.specs.Marks.{has_bit, with_bit}
-
--- one shifted to the place of bit n, where it has one
-pub shifted : (n w : ℕ) → n < w → 1 * 2 ^ n % 2 ^ w ≡ 2 ^ n
-shifted n w h = shl_exact 1 n w (lit< tt) (omega arith) ∙ NatL.one-mul (2 ^ n)
+use Rattle.marks.specs.Marks.{mark_width, has_bit, with_bit}
 
 -- the place of bit p, split off the place of a higher one
 powers : (p k : ℕ) → 2 ^ (p + 1 + k) ≡ 2 ^ p * 2 * 2 ^ k
@@ -62,9 +64,6 @@ module _ (p m : ℕ) where
       let e : 0 * 2 ^ w + with_bit p m % 2 ^ w ≡ with_bit p m = rw z at (split (with_bit p m) w) in
       omega (arith, e, NatL.mod-lt (with_bit p m) (pow_pos w))
 
-  pub sum_fits : (w : ℕ) → p < w → m < 2 ^ w → has_bit p m ≡ false → m + 2 ^ p < 2 ^ w
-  sum_fits w h l c = rw c at (with_bit_fits w h l)
-
   -- its own bit is set, every other is as it was
   pub own_bit : has_bit p (with_bit p m) ≡ true
   own_bit =
@@ -106,3 +105,23 @@ bits_commute p q m d = set_both p q m d _ _ refl refl ∙ by (has_bit p m) (has_
     by true false = refl
     by false true = refl
     by false false = omega arith
+
+-- two bits that a test cannot tell apart
+equal_bits : (a b : ℕ) → a < 2 → b < 2 → eqb a 1 ≡ eqb b 1 → a ≡ b
+equal_bits a b ha hb e = by (eqb a 1) refl
+  where
+    by : (t : Bool) → eqb a 1 ≡ t → a ≡ b
+    by true p = eqb-true a 1 p ∙ sym (eqb-true b 1 (sym e ∙ p))
+    by false p = omega (arith, eqb-false a 1 p, eqb-false b 1 (sym e ∙ p))
+
+-- the bit as the code sets it
+pub set_bit : (p m : ℕ) → p < mark_width → bit_or m (1 * 2 ^ p % 2 ^ mark_width) ≡ with_bit p m
+set_bit p m h = same_from_bits (bit_or m (1 * 2 ^ p % 2 ^ mark_width)) (with_bit p m) (λ i. ⊎_elim (own i) (other i) (cases_eq i p))
+  where
+    own : (i : ℕ) → i ≡ p → bit_at (bit_or m (1 * 2 ^ p % 2 ^ mark_width)) i ≡ bit_at (with_bit p m) i
+    own i e = rw e (bit_at_set_same w32 m p h ∙ sym (eqb-true (bit_at (with_bit p m) p) 1 (own_bit p m)))
+
+    other : (i : ℕ) → (i ≡ p → ⊥) → bit_at (bit_or m (1 * 2 ^ p % 2 ^ mark_width)) i ≡ bit_at (with_bit p m) i
+    other i d =
+        bit_at_set_other w32 m p h i d
+        ∙ equal_bits (bit_at m i) (bit_at (with_bit p m) i) (bit_at-lt m i) (bit_at-lt (with_bit p m) i) (sym (other_bit p i m (λ e. d (sym e))))

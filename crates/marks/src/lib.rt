@@ -23,24 +23,18 @@ pub fn point_count(v: Vehicle) -> usize
     4 * v.count + 4
 }
 
-// The mark with a point's bit set: added where it is clear, so no other bit changes.
+// The mark with a point's bit set; no other bit changes.
 pub fn with_bit(p: usize, mark: Mark) -> Mark
     requires { HasPlace p }
     ensures { result ≡ with_bit p mark }
 {
-    let bit: Mark = 1 << p;
-    if mark / bit % 2 == 1 {
-        mark
-    } else {
-        mark + bit
-    }
+    mark | 1 << p
 }
 
-// Whether the bits of the first points, so many of them, are all set: the remainder leaves out the bits above them.
+// Whether the bits of the first points, so many of them, are all set.
 pub fn all_set(count: usize, mark: Mark) -> bool
     requires { HavePlaces count }
     ensures { result ≡ all_set count mark }
 {
-    let end: u64 = 1 << count;
-    (mark as u64) % end == end - 1
+    count <= mark.trailing_ones() as usize
 }

@@ -39,128 +39,40 @@ pub struct Row {
     pub width: Width,
 }
 
+// A row as the table reads: base, along, side, width.
+macro_rules! row {
+    ($base:expr, $along:ident, $side:ident, $width:ident) => {
+        Row {
+            base: $base,
+            along: Along::$along,
+            side: Side::$side,
+            width: Width::$width,
+        }
+    };
+}
+
 // The points by number: a rig has as many of them as `marks::point_count` says.
 const ROWS: [Row; marks::POINT_CAPACITY] = [
-    Row {
-        base: Base::Front(0),
-        along: Along::Corner,
-        side: Side::Left,
-        width: Width::Corner,
-    },
-    Row {
-        base: Base::Front(0),
-        along: Along::Corner,
-        side: Side::Right,
-        width: Width::Corner,
-    },
-    Row {
-        base: Base::Front(0),
-        along: Along::Nothing,
-        side: Side::Left,
-        width: Width::FrontHalf,
-    },
-    Row {
-        base: Base::Front(0),
-        along: Along::Nothing,
-        side: Side::Right,
-        width: Width::FrontHalf,
-    },
-    Row {
-        base: Base::LastRear,
-        along: Along::Nothing,
-        side: Side::Left,
-        width: Width::RearHalf,
-    },
-    Row {
-        base: Base::LastRear,
-        along: Along::Nothing,
-        side: Side::Right,
-        width: Width::RearHalf,
-    },
-    Row {
-        base: Base::Rear(0),
-        along: Along::Corner,
-        side: Side::Left,
-        width: Width::Corner,
-    },
-    Row {
-        base: Base::Rear(0),
-        along: Along::Corner,
-        side: Side::Right,
-        width: Width::Corner,
-    },
-    Row {
-        base: Base::Front(1),
-        along: Along::Corner,
-        side: Side::Left,
-        width: Width::Corner,
-    },
-    Row {
-        base: Base::Front(1),
-        along: Along::Corner,
-        side: Side::Right,
-        width: Width::Corner,
-    },
-    Row {
-        base: Base::Rear(1),
-        along: Along::Corner,
-        side: Side::Left,
-        width: Width::Corner,
-    },
-    Row {
-        base: Base::Rear(1),
-        along: Along::Corner,
-        side: Side::Right,
-        width: Width::Corner,
-    },
-    Row {
-        base: Base::Front(2),
-        along: Along::Corner,
-        side: Side::Left,
-        width: Width::Corner,
-    },
-    Row {
-        base: Base::Front(2),
-        along: Along::Corner,
-        side: Side::Right,
-        width: Width::Corner,
-    },
-    Row {
-        base: Base::Rear(2),
-        along: Along::Corner,
-        side: Side::Left,
-        width: Width::Corner,
-    },
-    Row {
-        base: Base::Rear(2),
-        along: Along::Corner,
-        side: Side::Right,
-        width: Width::Corner,
-    },
-    Row {
-        base: Base::Front(3),
-        along: Along::Corner,
-        side: Side::Left,
-        width: Width::Corner,
-    },
-    Row {
-        base: Base::Front(3),
-        along: Along::Corner,
-        side: Side::Right,
-        width: Width::Corner,
-    },
-    Row {
-        base: Base::Rear(3),
-        along: Along::Corner,
-        side: Side::Left,
-        width: Width::Corner,
-    },
-    Row {
-        base: Base::Rear(3),
-        along: Along::Corner,
-        side: Side::Right,
-        width: Width::Corner,
-    },
+    row!(Base::Front(0), Corner, Left, Corner),
+    row!(Base::Front(0), Corner, Right, Corner),
+    row!(Base::Front(0), Nothing, Left, FrontHalf),
+    row!(Base::Front(0), Nothing, Right, FrontHalf),
+    row!(Base::LastRear, Nothing, Left, RearHalf),
+    row!(Base::LastRear, Nothing, Right, RearHalf),
+    row!(Base::Rear(0), Corner, Left, Corner),
+    row!(Base::Rear(0), Corner, Right, Corner),
+    row!(Base::Front(1), Corner, Left, Corner),
+    row!(Base::Front(1), Corner, Right, Corner),
+    row!(Base::Rear(1), Corner, Left, Corner),
+    row!(Base::Rear(1), Corner, Right, Corner),
+    row!(Base::Front(2), Corner, Left, Corner),
+    row!(Base::Front(2), Corner, Right, Corner),
+    row!(Base::Rear(2), Corner, Left, Corner),
+    row!(Base::Rear(2), Corner, Right, Corner),
+    row!(Base::Front(3), Corner, Left, Corner),
+    row!(Base::Front(3), Corner, Right, Corner),
+    row!(Base::Rear(3), Corner, Left, Corner),
+    row!(Base::Rear(3), Corner, Right, Corner),
 ];
 
 // The row of point k.
