@@ -9,7 +9,7 @@ use lib.Seq.{sets, sets-eq, length-sets, get_or-append-add, get_or-drop}
 use lib.IntN.{ℤ, pos}
 use Rattle.job.specs.declared.Job.{Job}
 use Rattle.path.specs.declared.Station.{Station}
-use Rattle.path.specs.declared.Laid.TheVariants as L
+use Rattle.std.specs.Prelude.{Ok}
 use Rattle.path.specs.Stations.{stations}
 use Rattle.path.specs.Laying.{PathRuns, station_at, room_for, written, LayEnsures}
 use Rattle.path.specs.LaidPath.{no_station, PathInRuns}
@@ -67,7 +67,7 @@ pub written_lengths : (ps : List Station) (r : PathRuns) → SameLengths (writte
 written_lengths ps r = record { xs = simp length-sets; ys = simp length-sets; gxs = simp length-sets; gys = simp length-sets }
 
 -- the stations of a job that was laid
-pub path_in_runs : (j : Job) (before : PathRuns) (n : ℕ) (after : PathRuns) → LayEnsures j before (L.Stations n) after → PathInRuns j before n after
+pub path_in_runs : (j : Job) (before : PathRuns) (n : ℕ) (after : PathRuns) → LayEnsures j before (Ok n) after → PathInRuns j before n after
 path_in_runs j before n after t =
     let s = stations_answered j before n after t in
     record {

@@ -7,8 +7,8 @@ use native.Mathlib.Omega.{arith}
 use borrow.Author.Tests.{leb-true, eq-eqb, ne_eqb, eqb-true}
 use lib.Dec.{leb, eqb}
 use lib.ListN.{length, take, get_or, length-take}
-use lib.Seq.{get_or-take}
-use lib.IntN.{ℤ, pos, nat_abs, ◌*ℤ◌}
+use Rattle.std.specs.Prelude.{Ok, Err}
+use lib.IntN.{pos, nat_abs, ◌*ℤ◌}
 use Rattle.exact.specs.Size.{Within}
 use Rattle.number.specs.Read.{pick}
 use Rattle.number.proofs.FieldCodec.{both}
@@ -20,11 +20,12 @@ use Rattle.job.specs.declared.Job.{Job}
 use Rattle.job.specs.Allowed.{element_allowed, heading_allowed, coordinate_allowed, start_allowed}
 use Rattle.job.specs.Steps.{tally, steps_allowed}
 use Rattle.job.specs.Empty.{empty_element}
-use Rattle.job.specs.Faults.{judge, or_fault, fault_of, element_fault, total_fault, elements_fault}
+use Rattle.job.specs.Faults.{judge, fault_of, element_fault, total_fault, elements_fault}
 use Rattle.job.proofs.FaultLaws.{sound, or_none, first_none, fault_at}
 use Rattle.path.specs.declared.Station.{Station}
-use Rattle.path.specs.declared.Laid.{Laid}
-use Rattle.path.specs.declared.Laid.TheVariants as L
+use Rattle.refusal.specs.Numbers.{Answer, answered, refused, number_of}
+use Rattle.refusal.specs.declared.Fault.{Fault}
+use Rattle.refusal.specs.declared.Fault.TheVariants as F
 use Rattle.path.specs.Stations.{Step, steps_on, step_total, start_station, next_station, stations_from, stations}
 use Rattle.path.specs.Laying.{PathRuns, room_for, written, lay_answer, laid_runs, LayEnsures, Accepted}
 use Rattle.path.proofs.TotalLaws.{total_count}
@@ -35,21 +36,20 @@ unfolding fault_of step_total
 total_allowed step t [] h = leb-true t 2000 (or_none (steps_allowed t) 8 0 h).0
 total_allowed step t (e ∷ es) h = total_allowed step (tally step t e) es (first_none (element_fault t e) (fault_of element_fault (tally step) total_fault (tally step t e) es) h).1
 
-pub accepted : (j : Job) → length j.elements ≡ 64 → judge j ≡ 0 → Accepted j.step j.count j.elements
+pub accepted : (j : Job) → length j.elements ≡ 64 → judge j ≡ 0 → Accepted j.step (take j.count j.elements)
 unfolding elements_fault
 accepted j n h =
     let s = sound j h in
+    let es = take j.count j.elements in
     let step = both (leb 100 j.step) (leb j.step 20000) s.step in
-    let count = both (leb 1 j.count) (leb j.count 64) s.count in
-    let places = leb-true j.count 64 count.1 in
     record {
       least = leb-true 100 j.step step.0;
       most = leb-true j.step 20000 step.1;
-      places = places;
+      places = omega (arith, length-take j.count j.elements);
       allowed = λ i l.
-          let f = fault_at element_fault (tally j.step) total_fault 0 (take j.count j.elements) i empty_element s.elements (omega (arith, length-take j.count j.elements)) in
-          (or_none (element_allowed (get_or j.elements i empty_element)) 7 0 (sym (ap (λ (e : Element). or_fault (element_allowed e) 8 0) (get_or-take j.count j.elements i empty_element l)) ∙ f.1)).0;
-      total = total_allowed j.step 0 (take j.count j.elements) s.elements;
+          let f = fault_at element_fault (tally j.step) total_fault 0 es i empty_element s.elements l in
+          (or_none (element_allowed (get_or es i empty_element)) 7 0 f.1).0;
+      total = total_allowed j.step 0 es s.elements;
     }
 
 -- the start is sound
@@ -73,29 +73,29 @@ stations_count j =
     omega (arith, stations_length (start_station j.start) (steps_on j.step es), total_count j.step 0 es)
 
 -- the answers
-pub fault_answered : (j : Job) (r : PathRuns) → (judge j ≡ 0 → ⊥) → LayEnsures j r (L.Refused (judge j)) r
+pub fault_answered : (j : Job) (r : PathRuns) (f : Fault) → number_of f ≡ judge j → (judge j ≡ 0 → ⊥) → LayEnsures j r (Err f) r
 unfolding lay_answer
-fault_answered j r h = let e = ne_eqb (judge j) 0 h in record { answered = rw e; runs = rw e }
+fault_answered j r f n h = let e = ne_eqb (judge j) 0 h in record { answered = rw (e, n); runs = rw e }
 
 module _ (j : Job) (r : PathRuns) (h : judge j ≡ 0) where
-  pub no_room_answered : room_for (length (stations j)) r ≡ false → LayEnsures j r (L.Refused 21) r
+  pub no_room_answered : room_for (length (stations j)) r ≡ false → LayEnsures j r (Err F.RunTooShort) r
   unfolding lay_answer
   no_room_answered e = let z = eq-eqb (judge j) 0 h in record { answered = rw (z, e); runs = rw (z, e) }
 
-  pub laid_answered : room_for (length (stations j)) r ≡ true → LayEnsures j r (L.Stations (length (stations j))) (written (stations j) r)
+  pub laid_answered : room_for (length (stations j)) r ≡ true → LayEnsures j r (Ok (length (stations j))) (written (stations j) r)
   unfolding lay_answer
   laid_answered e = let z = eq-eqb (judge j) 0 h in record { answered = rw (z, e); runs = rw (z, e) }
 
 -- stations are answered only where the job has no fault and the runs have room
-answered_so : (a b : Bool) (f m n : ℕ) → L.Stations n ≡ pick a (pick b (L.Stations m) (L.Refused 21)) (L.Refused f) → (a ≡ true) × (b ≡ true) × (n ≡ m)
+answered_so : (a b : Bool) (f m n : ℕ) → answered n ≡ pick a (pick b (answered m) (refused 21)) (refused f) → (a ≡ true) × (b ≡ true) × (n ≡ m)
 answered_so true true f m n e = (refl, refl, cc)
 answered_so true false f m n e = absurd (let z : ◌≡◌ {A = ℕ} 0 1 = cc in omega arith)
 answered_so false b f m n e = absurd (let z : ◌≡◌ {A = ℕ} 0 1 = cc in omega arith)
 
-pub stations_answered : (j : Job) (r : PathRuns) (n : ℕ) (q : PathRuns) → LayEnsures j r (L.Stations n) q
+pub stations_answered : (j : Job) (r : PathRuns) (n : ℕ) (q : PathRuns) → LayEnsures j r (Ok n) q
     → (judge j ≡ 0) × (room_for (length (stations j)) r ≡ true) × (n ≡ length (stations j)) × (q ≡ written (stations j) r)
 unfolding lay_answer
 stations_answered j r n q t =
     let m = length (stations j) in
     let s = answered_so (eqb (judge j) 0) (room_for m r) (judge j) m n t.answered in
-    (eqb-true (judge j) 0 s.0, s.1, s.2, t.runs ∙ ap (λ (a : Laid). laid_runs a j r) (sym t.answered))
+    (eqb-true (judge j) 0 s.0, s.1, s.2, t.runs ∙ ap (λ (a : Answer ℕ). laid_runs a j r) (sym t.answered))

@@ -1,5 +1,5 @@
 -- Laying station by station: what is left to write, over what is written, is the whole path.
-use Prim.Native.Nat.{ℕ, ◌+◌, ◌*◌, ◌-◌, ◌≤◌, ◌<◌}
+use Prim.Native.Nat.{ℕ, ◌+◌, ◌*◌, ◌≤◌, ◌<◌}
 use mathlib.Core.Path.{◌≡◌, refl, sym, ◌∙◌, ap}
 use mathlib.Core.Bool.{Bool, true, false}
 use mathlib.Core.List.{List, [], ◌∷◌, map}
@@ -8,9 +8,9 @@ use native.Mathlib.Numerals.{add-one}
 use native.Mathlib.Decide.{dec_le}
 use borrow.Author.Tests.{leb-true, ltb-true, le-leb}
 use lib.Dec.{leb, ltb}
-use lib.ListN.{length, take, get_or, length-set, length-take}
-use lib.Seq.{sets, get_or-take}
-use lib.IntN.{ℤ, pos, ◌*ℤ◌}
+use lib.ListN.{length, get_or, length-set}
+use lib.Seq.{sets}
+use lib.IntN.{pos, ◌*ℤ◌}
 use Rattle.exact.specs.Size.{Within}
 use Rattle.exact.proofs.Sizes.{within_more}
 use Rattle.number.specs.Read.{pick}
@@ -23,7 +23,7 @@ use Rattle.path.specs.declared.Station.{Station}
 use Rattle.path.specs.declared.PathCursor.{PathCursor}
 use Rattle.path.specs.Stations.{Step, steps_on, station_after, next_station, stations_from}
 use Rattle.path.specs.Cursor.{step_length, cursor_after, OnElement}
-use Rattle.path.specs.Laying.{PathRuns, written, stored, room_for, Storable, Layable}
+use Rattle.path.specs.Laying.{PathRuns, stored, room_for, Storable, Layable}
 use Rattle.path.proofs.StationLaws.{heading_kept, position_within}
 use Rattle.path.proofs.StoreLaws.{room}
 use Rattle.path.proofs.TotalLaws.{total_count}
@@ -72,6 +72,13 @@ room_for_fewer n m r q s h e =
     let d = le-leb n (length r.gys) (omega (arith, k.3, s.gys)) in
     rw (a, b, c, d)
 
+pub same_lengths : {r : PathRuns} → SameLengths r r
+same_lengths = record { xs = refl; ys = refl; gxs = refl; gys = refl }
+
+-- a station written leaves the room
+pub room_stored : (n i : ℕ) (p : Station) (r q : PathRuns) → q ≡ stored i p r → room_for n r ≡ true → room_for n q ≡ true
+room_stored n i p r q e h = room_for_fewer n n q r (rw e (stored_lengths i p r r same_lengths)) (omega arith) h
+
 -- the elements in use, as a list of their own, and their steps
 pub record Usable (step steps : ℕ) (es : List Element) : Type 0 where
   pub least : 100 ≤ step
@@ -81,14 +88,14 @@ pub record Usable (step steps : ℕ) (es : List Element) : Type 0 where
   pub all : (k : ℕ) → k < length es → element_allowed (get_or es k empty_element) ≡ true
   pub counted : steps ≡ length (steps_on step es)
 
-pub usable : {step count steps : ℕ} {es : List Element} {p : Station} {r : PathRuns} → Layable step count steps es p r → length es ≡ 64 → Usable step steps (take count es)
-usable {step} {count} {steps} {es} y n = record {
+pub usable : {step steps : ℕ} {es : List Element} {p : Station} {r : PathRuns} → Layable step steps es p r → Usable step steps es
+usable {step} {steps} {es} y = record {
   least = y.accepted.least;
   most = y.accepted.most;
   few = omega (arith, y.counted, y.accepted.total);
-  places = omega (arith, length-take count es);
-  all = λ k h. rw (get_or-take count es k empty_element (omega (arith, length-take count es))) (y.accepted.allowed k (omega (arith, length-take count es)));
-  counted = omega (arith, y.counted, total_count step 0 (take count es));
+  places = y.accepted.places;
+  all = y.accepted.allowed;
+  counted = omega (arith, y.counted, total_count step 0 es);
 }
 
 -- after i steps: the cursor c, the runs r; `whole` is what they come to

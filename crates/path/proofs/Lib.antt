@@ -12,3 +12,4 @@ pub mod SoundLaws
 pub mod EntryLaws
 pub mod Tied
 pub mod Rows
+pub mod Loans

@@ -8,7 +8,7 @@ use native.Mathlib.Nat as NatL
 use borrow.Author.Tests.{leb-true}
 use lib.Dec.{leb}
 use lib.ListN.{length, take, get_or}
-use lib.IntN.{ℤ, pos, ◌*ℤ◌}
+use lib.IntN.{pos, ◌*ℤ◌}
 use Rattle.exact.specs.Size.{Within}
 use Rattle.exact.proofs.Sizes.{within_more}
 use Rattle.number.proofs.FieldCodec.{both}

@@ -3,7 +3,7 @@ use mathlib.Core.Path.{◌≡◌, refl}
 use mathlib.Core.Bool.{true}
 use Prim.Native.Nat.{ℕ, zero, suc, ◌+◌, ◌≤◌}
 use native.Mathlib.Omega.{arith}
-use lib.IntN.{ℤ, pos, ◌*ℤ◌}
+use lib.IntN.{pos, ◌*ℤ◌}
 use Rattle.exact.specs.Size.{Within}
 use Rattle.exact.proofs.Order.{pos-≤}
 use Rattle.exact.proofs.Sizes.{within_add, within_more}

@@ -7,7 +7,7 @@ use borrow.Author.Tests.{leb-true}
 use lib.Dec.{leb, lit≤}
 use lib.ListN.{length}
 use lib.IntN.{ℤ, pos, negsuc, neg_ℤ}
-use lib.Signed.{◌≤ℤ◌, le_z_yes}
+use lib.Signed.{le_z_yes}
 use Rattle.exact.specs.Size.{Within}
 use Rattle.exact.proofs.Order.{≤ℤ-trans, pos-≤}
 use Rattle.exact.proofs.Sizes.{≤-size, ≥-size}

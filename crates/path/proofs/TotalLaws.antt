@@ -1,6 +1,6 @@
 -- The total of steps: turn by turn over the elements in use, and as the number of the steps themselves.
 use Prim.Native.Nat.{ℕ, ◌+◌, ◌≤◌, ◌<◌}
-use mathlib.Core.Path.{◌≡◌, sym, ◌∙◌, ap}
+use mathlib.Core.Path.{◌≡◌, ◌∙◌, ap}
 use mathlib.Core.List.{List, [], ◌∷◌, ◌++◌, map}
 use native.Mathlib.Omega.{arith}
 use native.Mathlib.Numerals.{add-one}
@@ -22,14 +22,14 @@ taken_next es n i z h l =
 pub taken_end : {A : Type 0} (es : List A) (n i : ℕ) → n ≤ i → drop i (take n es) ≡ []
 taken_end es n i h = drop_of_length-le (take n es) {i = i} (omega (arith, length-take n es))
 
-module _ (step total : ℕ) (es : List Element) (n i : ℕ) where
-  pub total_next : n ≤ length es → i < n → step_total step total (drop i (take n es)) ≡ step_total step (tally step total (get_or es i empty_element)) (drop (i + 1) (take n es))
+module _ (step total : ℕ) (es : List Element) (i : ℕ) where
+  pub total_next : i < length es → step_total step total (drop i es) ≡ step_total step (tally step total (get_or es i empty_element)) (drop (i + 1) es)
   unfolding step_total
-  total_next h l = rw (taken_next es n i empty_element h l)
+  total_next l = rw (drop-cons es i empty_element l, add-one)
 
-  pub total_end : n ≤ i → step_total step total (drop i (take n es)) ≡ total
+  pub total_end : length es ≤ i → step_total step total (drop i es) ≡ total
   unfolding step_total
-  total_end h = rw (taken_end es n i h)
+  total_end h = rw (drop_of_length-le es {i = i} h)
 
 -- as many as there are steps
 pub total_count : (step total : ℕ) (es : List Element) → step_total step total es ≡ total + length (steps_on step es)

@@ -1,5 +1,5 @@
 -- Each requirement of this crate can be met: the station at the far corner of the starts, the longest step, the tightest bend, and a run with just the room.
-use Prim.Native.Nat.{ℕ, zero, suc, ◌<◌, ◌≤◌}
+use Prim.Native.Nat.{ℕ, zero, suc, ◌<◌}
 use mathlib.Core.Path.{◌≡◌, refl, sym}
 use mathlib.Core.Bool.{true}
 use mathlib.Core.List.{List, [], ◌∷◌}
@@ -56,7 +56,7 @@ on_element_met = record {
   element = lit≤ tt;
 }
 
-bend_allowed : (i : ℕ) → i < 1 → element_allowed (get_or elements i empty_element) ≡ true
+bend_allowed : (i : ℕ) → i < 1 → element_allowed (get_or (take 1 elements) i empty_element) ≡ true
 unfolding empty_elements
 bend_allowed zero h = refl
 bend_allowed (suc i) h = absurd (omega arith)
@@ -65,7 +65,8 @@ steps : step_total 20000 0 (take 1 elements) ≡ 2
 unfolding step_total empty_elements
 steps = refl
 
-accepted_met : Accepted 20000 1 elements
+accepted_met : Accepted 20000 (take 1 elements)
+unfolding empty_elements
 accepted_met = record { least = lit≤ tt; most = lit≤ tt; places = lit≤ tt; allowed = bend_allowed; total = omega (arith, steps) }
 
 abbrev three : List ℤ
@@ -81,7 +82,7 @@ north_start : start_allowed (start_at corner) ≡ true
 unfolding heading_allowed has_length
 north_start = refl
 
-layable_met : Layable 20000 1 2 elements corner runs
+layable_met : Layable 20000 2 (take 1 elements) corner runs
 layable_met = record {
   accepted = accepted_met;
   counted = sym steps;

@@ -1,5 +1,5 @@
 -- The path walked by value, a step at a time: a cursor is the element it is on, the ticks of that element behind it, and the station it has reached.
-use Rattle.std.specs.Prelude.{ℕ, ◌+◌, ◌-◌, ◌<◌, ◌≤◌, ◌≡◌, true, leb, ltb, ℤ, pos, ◌*ℤ◌}
+use Rattle.std.specs.Prelude.{ℕ, ◌+◌, ◌-◌, ◌<◌, ◌≤◌, ◌≡◌, true, leb, ltb, pos, ◌*ℤ◌}
 use Rattle.number.specs.Read.{pick}
 use Rattle.plane.specs.Vector.{Moderate}
 use Rattle.plane.specs.Length.{heading_length, Near}

@@ -1,9 +1,8 @@
 -- The claim about the path of a job that has no fault (01, "Laying the path"), and about the runs that laying leaves it in.
-use Rattle.std.specs.Prelude.{ℕ, ◌+◌, ◌≤◌, ◌<◌, ◌≡◌, length, take, get_or, pos}
+use Rattle.std.specs.Prelude.{ℕ, ◌+◌, ◌≤◌, ◌<◌, ◌≡◌, length, take, get_or, Ok, pos}
 use Rattle.job.specs.declared.Job.{Job}
 use Rattle.job.specs.Faults.{judge}
 use Rattle.path.specs.declared.Station.{Station}
-use Rattle.path.specs.declared.Laid.TheVariants as L
 use Rattle.path.specs.Stations.{step_total, start_station, stations}
 use Rattle.path.specs.Laying.{PathRuns, station_at, SoundStation, LayEnsures}
 
@@ -30,4 +29,4 @@ pub record PathInRuns (j : Job) (before : PathRuns) (n : ℕ) (after : PathRuns)
 
 pub record LaidPath : Type 0 where
   pub path : (j : Job) → judge j ≡ 0 → SoundPath j
-  pub runs : (j : Job) (before : PathRuns) (n : ℕ) (after : PathRuns) → LayEnsures j before (L.Stations n) after → PathInRuns j before n after
+  pub runs : (j : Job) (before : PathRuns) (n : ℕ) (after : PathRuns) → LayEnsures j before (Ok n) after → PathInRuns j before n after

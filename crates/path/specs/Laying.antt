@@ -1,7 +1,9 @@
 -- Laying a path into four lent runs (01, "Why a job is turned down": "Laying a path tests 3 to 9 likewise, then 21").
-use Rattle.std.specs.Prelude.{ℕ, ◌+◌, ◌≤◌, ◌<◌, ◌≡◌, List, ◌∷◌, map, Bool, true, ◌&&◌, length, set, take, get_or, leb, eqb, ℤ, pos, ◌*ℤ◌}
+use Rattle.std.specs.Prelude.{ℕ, ◌+◌, ◌≤◌, ◌<◌, ◌≡◌, List, ◌∷◌, map, Bool, true, ◌&&◌, length, set, get_or, leb, eqb, Result, ℤ, pos, ◌*ℤ◌}
 use Rattle.std.proofs.lemmas.List.Edits.{sets}
 use Rattle.exact.specs.Size.{Within}
+use Rattle.refusal.specs.Numbers.{Answer, answered, refused, as_answer}
+use Rattle.refusal.specs.declared.Fault.{Fault}
 use Rattle.number.specs.Read.{pick}
 use Rattle.plane.specs.Length.{heading_length, Near}
 use Rattle.job.specs.declared.Element.{Element}
@@ -11,8 +13,6 @@ use Rattle.job.specs.Allowed.{start_allowed, element_allowed}
 use Rattle.job.specs.Empty.{empty_element}
 use Rattle.job.specs.Faults.{judge}
 use Rattle.path.specs.declared.Station.{Station}
-use Rattle.path.specs.declared.Laid.{Laid}
-use Rattle.path.specs.declared.Laid.TheVariants as L
 use Rattle.path.specs.Stations.{steps_on, step_total, stations_from, stations}
 
 -- the four runs of a path: positions and headings, one entry a station
@@ -61,28 +61,28 @@ stored i p r = record {
 }
 
 -- the answer: the job's first fault, then 21, then the number of stations laid
-unfoldable pub lay_answer : Job → PathRuns → Laid
+unfoldable pub lay_answer : Job → PathRuns → Answer ℕ
 lay_answer j r =
     pick (eqb (judge j) 0)
-    (pick (room_for (length (stations j)) r) (L.Stations (length (stations j))) (L.Refused 21))
-    (L.Refused (judge j))
+    (pick (room_for (length (stations j)) r) (answered (length (stations j))) (refused 21))
+    (refused (judge j))
 
 -- what the runs hold afterwards: a refusal writes nothing
-abbrev pub laid_runs : Laid → Job → PathRuns → PathRuns
-laid_runs (L.Stations n) j r = written (stations j) r
-laid_runs (L.Refused n) j r = r
+abbrev pub laid_runs : Answer ℕ → Job → PathRuns → PathRuns
+laid_runs (answered n) j r = written (stations j) r
+laid_runs (refused n) j r = r
 
-pub record LayEnsures (j : Job) (before : PathRuns) (answer : Laid) (after : PathRuns) : Type 0 where
-  pub answered : answer ≡ lay_answer j before
+pub record LayEnsures (j : Job) (before : PathRuns) (answer : Result ℕ Fault) (after : PathRuns) : Type 0 where
+  pub answered : as_answer answer ≡ lay_answer j before
   pub runs : after ≡ laid_runs (lay_answer j before) j before
 
 -- elements in use that the value test let pass
-pub record Accepted (step count : ℕ) (es : List Element) : Type 0 where
+pub record Accepted (step : ℕ) (es : List Element) : Type 0 where
   pub least : 100 ≤ step
   pub most : step ≤ 20000
-  pub places : count ≤ 64
-  pub allowed : (i : ℕ) → i < count → element_allowed (get_or es i empty_element) ≡ true
-  pub total : step_total step 0 (take count es) ≤ 2000
+  pub places : length es ≤ 64
+  pub allowed : (i : ℕ) → i < length es → element_allowed (get_or es i empty_element) ≡ true
+  pub total : step_total step 0 es ≤ 2000
 
 -- what writing a station asks
 pub record Storable (i : ℕ) (p : Station) (r : PathRuns) : Type 0 where
@@ -94,12 +94,12 @@ abbrev pub start_at : Station → Start
 start_at p = record { x = p.position.x; y = p.position.y; gx = p.heading.x; gy = p.heading.y }
 
 -- what laying asks: elements that were let pass, as many steps as they have, a start that was let pass and room for every station
-pub record Layable (step count steps : ℕ) (es : List Element) (p : Station) (r : PathRuns) : Type 0 where
-  pub accepted : Accepted step count es
-  pub counted : steps ≡ step_total step 0 (take count es)
+pub record Layable (step steps : ℕ) (es : List Element) (p : Station) (r : PathRuns) : Type 0 where
+  pub accepted : Accepted step es
+  pub counted : steps ≡ step_total step 0 es
   pub room : room_for (steps + 1) r ≡ true
   pub start : start_allowed (start_at p) ≡ true
 
--- the stations from a start, over the elements in use
-abbrev pub stations_over : ℕ → ℕ → List Element → Station → List Station
-stations_over step count es p = p ∷ stations_from p (steps_on step (take count es))
+-- the stations from a start, over elements
+abbrev pub stations_over : ℕ → List Element → Station → List Station
+stations_over step es p = p ∷ stations_from p (steps_on step es)

@@ -3,3 +3,4 @@ pub mod Stations
 pub mod Cursor
 pub mod Laying
 pub mod LaidPath
+pub mod Lent
