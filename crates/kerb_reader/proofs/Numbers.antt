@@ -5,7 +5,7 @@ use mathlib.Core.Bool.{Bool, true, false}
 use mathlib.Core.List.{List, [], ◌∷◌}
 use mathlib.Core.Logic.{◌⊎◌, inl, inr}
 use lib.Dec.{leb, eqb}
-use lib.ListN.{length, get_or}
+use lib.ListN.{length}
 use lib.Ieee.{binary64, of_bits}
 use Rattle.number.specs.Read.{Read, got, refused, Reader, pick, and_then, ◌>>=◌, return, here, unless, many, into}
 use Rattle.metres.specs.Bytes.{little_endian}

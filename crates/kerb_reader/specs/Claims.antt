@@ -1,9 +1,8 @@
 -- What holds of every kerb that is read: its limits, and how many bytes decide it.
-use Rattle.std.specs.Prelude.{ℕ, ◌≤◌, ◌<◌, ◌≡◌, List, ◌⊎◌, length, get_or, take, ℤ, pos}
+use Rattle.std.specs.Prelude.{ℕ, ◌≤◌, ◌<◌, ◌≡◌, List, ◌⊎◌, length, get_or, take, ℤ, pos, Ok}
 use Rattle.exact.specs.Size.{Within}
 use Rattle.number.specs.Read.{refused}
 use Rattle.metres.specs.Tick.{ticks_most}
-use Rattle.kerb_reader.specs.declared.KerbRead.TheVariants as K
 use Rattle.kerb_reader.specs.Geometry.{vertices_most, read_geometry}
 use Rattle.kerb_reader.specs.Ticks.{KerbEnsures}
 
@@ -18,7 +17,7 @@ pub record KerbWithin (n : ℕ) (xs ys : List ℤ) : Type 0 where
 
 -- the claim
 abbrev pub KerbWithinLimits : Type 0
-KerbWithinLimits = (s : List ℕ) (xs ys : List ℤ) (n : ℕ) (xs' ys' : List ℤ) → KerbEnsures s xs ys (K.Vertices n) xs' ys' → KerbWithin n xs' ys'
+KerbWithinLimits = (s : List ℕ) (xs ys : List ℤ) (n : ℕ) (xs' ys' : List ℤ) → KerbEnsures s xs ys (Ok n) xs' ys' → KerbWithin n xs' ys'
 
 -- the longest geometry has 8,009 bytes: a mark, a type, a count and 500 vertices of 16 bytes; one byte more tells that some are left over
 abbrev pub bytes_read : ℕ

@@ -47,10 +47,6 @@ no_vertex = record { x = fin false 0 (pos 0); y = fin false 0 (pos 0) }
 unfoldable pub no_vertices : List Vertex
 no_vertices = replicate vertices_most no_vertex
 
--- what stands beside a refusal
-abbrev pub empty_survey : Survey
-empty_survey = record { geometry = G.Point no_vertex.x no_vertex.y; vertices = no_vertices }
-
 -- "a point with its coordinates"; no other vertex stands beside it
 unfoldable pub read_point : Reader Survey
 read_point = do

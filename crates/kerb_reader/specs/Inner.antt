@@ -1,5 +1,5 @@
 -- What the functions that are no entries require of their callers, and what those that write ensure.
-use Rattle.std.specs.Prelude.{ℕ, ◌≤◌, ◌<◌, ◌≡◌, List, ◌∷◌, map, length, get_or, take, drop, set, ℤ}
+use Rattle.std.specs.Prelude.{ℕ, ◌≤◌, ◌<◌, ◌≡◌, List, ◌∷◌, map, length, get_or, set, ℤ, Result}
 use Rattle.std.proofs.lemmas.List.Edits.{sets}
 use Rattle.number.specs.Read.{got}
 use Rattle.metres.specs.Tick.{tick_of, VertexWithin}
@@ -7,8 +7,9 @@ use Rattle.metres.specs.declared.Vertex.{Vertex}
 use Rattle.kerb_reader.specs.declared.Geometry.{Geometry}
 use Rattle.kerb_reader.specs.declared.Geometry.TheVariants as G
 use Rattle.kerb_reader.specs.declared.Survey.{Survey}
-use Rattle.kerb_reader.specs.declared.KerbRead.{KerbRead}
+use Rattle.kerb_reader.specs.declared.KerbRefusal.{KerbRefusal}
 use Rattle.kerb_reader.specs.Geometry.{no_vertex, vertices_most}
+use Rattle.kerb_reader.specs.Answers.{as_kerb}
 use Rattle.kerb_reader.specs.Ticks.{east_of, north_of, east_ticks, north_ticks, kerb_answer, ticks_in}
 
 -- a mark, type or count has at most four bytes
@@ -37,18 +38,16 @@ pub record VertexWritten (v : Vertex) (i : ℕ) (xs ys xs' ys' : List ℤ) : Typ
   pub east : xs' ≡ set xs i (tick_of v.x)
   pub north : ys' ≡ set ys i (tick_of v.y)
 
--- the same of all vertices: the first, then those after it in the array
-pub record VerticesWritable (v : Vertex) (vertices : List Vertex) (count : ℕ) (xs ys : List ℤ) : Type 0 where
-  pub first : VertexWithin v
-  pub others : (i : ℕ) → VertexWithin (get_or vertices i no_vertex)
-  pub least : 1 ≤ count
-  pub most : count ≤ vertices_most
-  pub east : count ≤ length xs
-  pub north : count ≤ length ys
+-- the same of all vertices: the first, then the others
+pub record VerticesWritable (first : Vertex) (others : List Vertex) (xs ys : List ℤ) : Type 0 where
+  pub within : VertexWithin first
+  pub others_within : (i : ℕ) → VertexWithin (get_or others i no_vertex)
+  pub east : length others < length xs
+  pub north : length others < length ys
 
-pub record VerticesWritten (first : Vertex) (vertices : List Vertex) (count : ℕ) (xs ys xs' ys' : List ℤ) : Type 0 where
-  pub east : xs' ≡ sets xs 0 (map east_of (first ∷ drop 1 (take count vertices)))
-  pub north : ys' ≡ sets ys 0 (map north_of (first ∷ drop 1 (take count vertices)))
+pub record VerticesWritten (first : Vertex) (others : List Vertex) (xs ys xs' ys' : List ℤ) : Type 0 where
+  pub east : xs' ≡ sets xs 0 (map east_of (first ∷ others))
+  pub north : ys' ≡ sets ys 0 (map north_of (first ∷ others))
 
 -- what was read has 1 to 500 vertices, none farther than 15,000 m
 pub record SurveyWithin (g : Survey) : Type 0 where
@@ -58,7 +57,7 @@ pub record SurveyWithin (g : Survey) : Type 0 where
   pub first : VertexWithin (first_of g.geometry)
   pub others : (i : ℕ) → VertexWithin (get_or g.vertices i no_vertex)
 
-pub record SurveyWritten (g : Survey) (xs ys : List ℤ) (r : KerbRead) (xs' ys' : List ℤ) : Type 0 where
-  pub answer : r ≡ kerb_answer (got g 0) xs ys
+pub record SurveyWritten (g : Survey) (xs ys : List ℤ) (r : Result ℕ KerbRefusal) (xs' ys' : List ℤ) : Type 0 where
+  pub answer : as_kerb r ≡ kerb_answer (got g 0) xs ys
   pub east : xs' ≡ ticks_in (got g 0) east_ticks xs ys xs
   pub north : ys' ≡ ticks_in (got g 0) north_ticks xs ys ys

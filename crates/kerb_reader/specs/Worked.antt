@@ -1,7 +1,7 @@
 -- Geometries by their bytes, and what is read of them.
 use Rattle.std.specs.Prelude.{ℕ, ◌≡◌, List, [], ◌∷◌, ◌++◌, ℤ, pos}
 use Rattle.number.specs.Read.{refused}
-use Rattle.kerb_reader.specs.declared.KerbRead.TheVariants as K
+use Rattle.kerb_reader.specs.Answers as K
 use Rattle.kerb_reader.specs.Geometry.{read_geometry}
 use Rattle.kerb_reader.specs.Ticks.{kerb_answer, ticks_in, east_ticks, north_ticks}
 
@@ -28,12 +28,12 @@ abbrev pub entry : List ℤ
 entry = pos 7 ∷ []
 
 pub record WorkedGeometries : Type 0 where
-  pub point : kerb_answer (read_geometry point_bytes) entry entry ≡ K.Vertices 1
+  pub point : kerb_answer (read_geometry point_bytes) entry entry ≡ K.vertices 1
   pub east : ticks_in (read_geometry point_bytes) east_ticks entry entry entry ≡ pos 10000 ∷ []
   pub north : ticks_in (read_geometry point_bytes) north_ticks entry entry entry ≡ pos 20000 ∷ []
-  pub no_room : kerb_answer (read_geometry point_bytes) entry [] ≡ K.Refused 21
+  pub no_room : kerb_answer (read_geometry point_bytes) entry [] ≡ K.refused 21
   -- a line: its vertices in turn, and the entries past them stay
-  pub line : kerb_answer (read_geometry line_bytes) entries entries ≡ K.Vertices 2
+  pub line : kerb_answer (read_geometry line_bytes) entries entries ≡ K.vertices 2
   pub line_east : ticks_in (read_geometry line_bytes) east_ticks entries entries entries ≡ pos 10000 ∷ pos 30000 ∷ pos 7 ∷ []
   pub line_north : ticks_in (read_geometry line_bytes) north_ticks entries entries entries ≡ pos 20000 ∷ pos 40000 ∷ pos 7 ∷ []
   pub line_cut : read_geometry line_start ≡ refused 12 33

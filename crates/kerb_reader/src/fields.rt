@@ -1,99 +1,59 @@
 // The fields of a geometry: a mark, a type, a count, a coordinate, and a vertex.
 ghost use Rattle.std.specs.Prelude.{◌≡◌, ◌+◌, leb};
 ghost use Rattle.number.specs.Field.{within};
-ghost use Rattle.number.specs.Answers.{as_number, refusal_of};
+ghost use Rattle.number.specs.Answers.{as_part};
 ghost use Rattle.kerb_reader.specs.Geometry.{header, coordinate, read_vertex};
-ghost use Rattle.kerb_reader.specs.Answers.{as_coordinate, as_vertex};
 ghost use Rattle.kerb_reader.specs.Inner.{HeaderWidth};
 
-use crate::{Coordinate, VertexRead};
-use metres::{Metres, Vertex};
-use number::{Cursor, Number, Range, Refusal};
+use metres::Vertex;
+use number::{Cursor, Range};
+use refusal::{Fault, Refusal};
 
 // Whether n bytes from a position on are there, of so many.
 fn has_bytes(size: usize, at: usize, n: usize) -> bool
     ensures { result ≡ leb (at + n) size }
 {
-    if size < n {
-        return false;
-    }
-    at <= size - n
+    n <= size && at <= size - n
 }
 
 // A mark, type or count of n bytes in a range.
-pub(crate) fn read_header(s: &[u8], c: Cursor, n: usize, range: Range) -> Number
+pub(crate) fn read_header(
+    s: &[u8],
+    c: Cursor,
+    n: usize,
+    range: Range,
+) -> Result<(u32, Cursor), Refusal>
     requires { HeaderWidth n }
-    ensures { as_number result ≡ header n (within range) s.now c.at }
+    ensures { as_part result ≡ header n (within range) s.now c.at }
 {
-    let at = c.at;
-    let size = s.len();
-    if has_bytes(size, at, n) {
-        let v = metres::little_endian(s, at, n) as u32;
-        if number::is_within(range, v) {
-            let next = at + n;
-            return Number::Value(v, Cursor { at: next });
-        }
+    if !has_bytes(s.len(), c.at, n) {
+        return Err(Fault::Geometry.at(c.at));
     }
-    Number::Refused(12, at)
+    let v = metres::little_endian(s, c.at, n) as u32;
+    if number::is_within(range, v) {
+        Ok((v, Cursor { at: c.at + n }))
+    } else {
+        Err(Fault::Geometry.at(c.at))
+    }
 }
 
 // A coordinate, finite and no larger than 15,000 m.
-fn read_coordinate(s: &[u8], c: Cursor) -> Coordinate
-    ensures { as_coordinate result ≡ coordinate s.now c.at }
+fn read_coordinate(s: &[u8], c: Cursor) -> Result<(f64, Cursor), Refusal>
+    ensures { as_part result ≡ coordinate s.now c.at }
 {
-    let at = c.at;
-    let size = s.len();
-    if has_bytes(size, at, 8) {
-        let m = metres::read_metres(s, at);
-        let Metres::Finite(x) = m else {
-            return Coordinate::Refused(13, at);
-        };
-        if metres::within_limit(x) {
-            let next = at + 8;
-            return Coordinate::Value(x, Cursor { at: next });
-        }
-        return Coordinate::Refused(13, at);
+    if !has_bytes(s.len(), c.at, 8) {
+        return Err(Fault::Geometry.at(c.at));
     }
-    Coordinate::Refused(12, at)
+    match metres::read_metres(s, c.at) {
+        Some(x) if metres::within_limit(x) => Ok((x, Cursor { at: c.at + 8 })),
+        _ => Err(Fault::Coordinate.at(c.at)),
+    }
 }
 
-// The refusal that an answer holds; zeros where it holds a value.
-fn coordinate_refusal(a: Coordinate) -> Refusal
-    ensures { result ≡ refusal_of (as_coordinate a) }
+pub(crate) fn read_vertex(s: &[u8], c: Cursor) -> Result<(Vertex, Cursor), Refusal>
+    ensures { as_part result ≡ read_vertex s.now c.at }
 {
-    let Coordinate::Refused(number, place) = a else {
-        return Refusal {
-            number: 0,
-            place: 0,
-        };
-    };
-    Refusal { number, place }
-}
-
-pub(crate) fn vertex_refusal(a: VertexRead) -> Refusal
-    ensures { result ≡ refusal_of (as_vertex a) }
-{
-    let VertexRead::Refused(number, place) = a else {
-        return Refusal {
-            number: 0,
-            place: 0,
-        };
-    };
-    Refusal { number, place }
-}
-
-pub(crate) fn read_vertex(s: &[u8], c: Cursor) -> VertexRead
-    ensures { as_vertex result ≡ read_vertex s.now c.at }
-{
-    let a = read_coordinate(s, c);
-    let Coordinate::Value(x, c1) = a else {
-        let w = coordinate_refusal(a);
-        return VertexRead::Refused(w.number, w.place);
-    };
-    let b = read_coordinate(s, c1);
-    let Coordinate::Value(y, c2) = b else {
-        let w = coordinate_refusal(b);
-        return VertexRead::Refused(w.number, w.place);
-    };
-    VertexRead::Value(Vertex { x, y }, c2)
+    let (x, after) = read_coordinate(s, c)?;
+    let (y, next) = read_coordinate(s, after)?;
+    Ok((Vertex { x, y }, next))
 }

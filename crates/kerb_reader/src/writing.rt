@@ -2,24 +2,26 @@
 ghost use Rattle.std.specs.Prelude.{◌≡◌};
 ghost use Rattle.kerb_reader.specs.Inner.{first_of, count_of, Writable, VertexWritten, VerticesWritable, VerticesWritten, SurveyWithin, SurveyWritten};
 
-use crate::{Geometry, KerbRead, Survey};
+use crate::{Geometry, KerbRefusal, Survey};
 use metres::Vertex;
 
-fn first_vertex(g: Geometry) -> Vertex
-    ensures { result ≡ first_of g }
-{
-    match g {
-        Geometry::Point(x, y) => Vertex { x, y },
-        Geometry::Line(first, _) => first,
+impl Geometry {
+    fn first(self) -> Vertex
+        ensures { result ≡ first_of self }
+    {
+        match self {
+            Geometry::Point(x, y) => Vertex { x, y },
+            Geometry::Line(first, _) => first,
+        }
     }
-}
 
-fn vertex_count(g: Geometry) -> usize
-    ensures { result ≡ count_of g }
-{
-    match g {
-        Geometry::Point(_, _) => 1,
-        Geometry::Line(_, count) => count,
+    fn count(self) -> usize
+        ensures { result ≡ count_of self }
+    {
+        match self {
+            Geometry::Point(..) => 1,
+            Geometry::Line(_, count) => count,
+        }
     }
 }
 
@@ -28,43 +30,34 @@ fn write_vertex(v: Vertex, i: usize, xs: &mut [i32], ys: &mut [i32])
     requires { Writable v i xs.old ys.old }
     ensures { VertexWritten v i xs.old ys.old xs.new ys.new }
 {
-    let t = metres::ticks_of(v);
-    let x = t.x;
-    let y = t.y;
-    plane::put(xs, i, x);
-    plane::put(ys, i, y);
+    let tick = metres::ticks_of(v);
+    xs[i] = tick.x as i32;
+    ys[i] = tick.y as i32;
 }
 
 // The first vertex's ticks, then those of the others.
-fn write_vertices(
-    first: Vertex,
-    vertices: [Vertex; 500],
-    count: usize,
-    xs: &mut [i32],
-    ys: &mut [i32],
-)
-    requires { VerticesWritable first vertices count xs.old ys.old }
-    ensures { VerticesWritten first vertices count xs.old ys.old xs.new ys.new }
+fn write_vertices(first: Vertex, others: &[Vertex], xs: &mut [i32], ys: &mut [i32])
+    requires { VerticesWritable first others.now xs.old ys.old }
+    ensures { VerticesWritten first others.now xs.old ys.old xs.new ys.new }
 {
     write_vertex(first, 0, xs, ys);
-    let mut i = 1;
-    while i < count {
-        let v = vertices[i];
-        write_vertex(v, i, xs, ys);
-        i += 1;
+    for (i, v) in others.iter().enumerate() {
+        write_vertex(*v, i + 1, xs, ys);
     }
 }
 
-pub(crate) fn write_survey(g: Survey, xs: &mut [i32], ys: &mut [i32]) -> KerbRead
-    requires { SurveyWithin g }
-    ensures { SurveyWritten g xs.old ys.old result xs.new ys.new }
+pub(crate) fn write_survey(
+    survey: &Survey,
+    xs: &mut [i32],
+    ys: &mut [i32],
+) -> Result<usize, KerbRefusal>
+    requires { SurveyWithin survey.now }
+    ensures { SurveyWritten survey.now xs.old ys.old result xs.new ys.new }
 {
-    let shape = g.geometry;
-    let vertices = g.vertices;
-    let count = vertex_count(shape);
-    if (count <= xs.len()) & (count <= ys.len()) {
-        write_vertices(first_vertex(shape), vertices, count, xs, ys);
-        return KerbRead::Vertices(count);
+    let count = survey.geometry.count();
+    if xs.len() < count || ys.len() < count {
+        return Err(KerbRefusal::NoRoom);
     }
-    KerbRead::Refused(21)
+    write_vertices(survey.geometry.first(), &survey.vertices[1..count], xs, ys);
+    Ok(count)
 }

@@ -15,11 +15,11 @@ left_over size at n h = by (dec_le at (size - n))
     by (yes k) = rw (le-leb at (size - n) k, le-leb (at + n) size (omega arith))
     by (no k) = rw (lt-leb at (size - n) (omega arith), lt-leb (at + n) size (omega arith))
 
-pub returns-then-size-n : goal.returns-then-size-n
-returns-then-size-n c =
-    let a = c.args in
-    let h : a.size < a.at + a.n = omega (arith, c.if-size-n.true) in
-    sym (lt-leb _ _ h)
+pub returns-then-n-size : goal.returns-then-n-size
+returns-then-n-size c = left_over _ _ _ c.if-n-size.true
 
-pub returns : goal.returns
-returns c = left_over _ _ _ c.if-size-n.false
+pub returns-else-n-size : goal.returns-else-n-size
+returns-else-n-size c =
+    let a = c.args in
+    let h : a.size < a.at + a.n = omega (arith, c.if-n-size.false) in
+    rw (lt-leb _ _ c.if-n-size.false) (sym (lt-leb _ _ h))

@@ -1,15 +1,20 @@
 -- `kerb_reader::fields::read_vertex` meets its contract.
+use Rattle.std.proofs.lemmas.Result.{err_from_is_err_and}
 use Rattle.kerb_reader.specs.Geometry.{read_vertex}
 use Rattle.kerb_reader.proofs.fields.read_vertex.Goals as goal
 
-pub returns-in_default : goal.returns-in_default
+pub returns-in_err-x : goal.returns-in_err-x
 unfolding read_vertex
-returns-in_default c = rw (c.coordinate_refusal-w.ensures, ← c.read_coordinate-a.ensures, c.in_default.is)
+returns-in_err-x c =
+    let p = err_from_is_err_and c.from_residual.result c.from_residual.ensures.1 in
+    rw (p.1, p.2, ← c.in_err-x.ensures)
 
-pub returns-in_default-b : goal.returns-in_default-b
+pub returns-in_err-y : goal.returns-in_err-y
 unfolding read_vertex
-returns-in_default-b c = rw (c.coordinate_refusal-w-in_default-b.ensures, ← c.read_coordinate-a.ensures, c.in-Value.is, ← c.read_coordinate-b.ensures, c.in_default-b.is)
+returns-in_err-y c =
+    let p = err_from_is_err_and c.from_residual-in_err-y.result c.from_residual-in_err-y.ensures.1 in
+    rw (p.1, p.2, ← c.in_ok-x.ensures, ← c.in_err-y.ensures)
 
 pub returns : goal.returns
 unfolding read_vertex
-returns c = rw (← c.read_coordinate-a.ensures, c.in-Value.is, ← c.read_coordinate-b.ensures, c.in-Value-b.is)
+returns c = rw (← c.in_ok-x.ensures, ← c.in_ok-y.ensures)

@@ -1,33 +1,47 @@
--- `kerb_reader::shapes::read_vertices` meets its contract: the vertices from i on are still to be read.
-use Prim.Native.Nat.{◌-◌}
+-- `kerb_reader::shapes::read_vertices` meets its contract: the vertices from the index on are still to be read.
+use Prim.Native.Nat.{◌+◌, ◌-◌}
 use native.Mathlib.Omega.{arith}
 use native.Mathlib.Nat.{sub-zero}
-use mathlib.Core.Path.{◌∙◌, sym, ap}
+use mathlib.Core.Path.{◌≡◌, ◌∙◌, sym, ap}
+use mathlib.Core.List.{List, ◌++◌}
+use lib.ListN.{length, length-take, drop}
+use Rattle.std.proofs.lemmas.List.{take-append-drop, set-append_left}
+use Rattle.std.proofs.lemmas.Result.{err_from_is_err_and}
+use Rattle.number.specs.Read.{many, into}
 use Rattle.number.proofs.ManyLaws.{into_end, into_more, into_refused}
-use Rattle.kerb_reader.specs.Geometry.{read_vertices}
-use Rattle.kerb_reader.specs.Answers.{as_vertex, vertices_read}
+use Rattle.metres.specs.declared.Vertex.{Vertex}
+use Rattle.kerb_reader.specs.Geometry.{no_vertices, read_vertices}
+use Rattle.kerb_reader.proofs.Reaching.{no_vertices_length}
 use Rattle.kerb_reader.proofs.shapes.read_vertices.Invariants.{one, next, end}
 use Rattle.kerb_reader.proofs.shapes.read_vertices.Goals as goal
+use Rattle.kerb_reader.proofs.shapes.read_vertices.Goals.{At-loop-vertex}
 
-pub loop-i-init : goal.loop-i-init
+-- there are as many places as vertices are asked for
+places : (c : At-loop-vertex) → length c.loop-vertex.vertex-items ≡ c.args.count
+places c = let e = c.empty_vertices-vertices.ensures in omega (arith, length-take c.args.count c.empty_vertices-vertices.result, ap length e, no_vertices_length, c.requires.most)
+
+pub loop-vertex-init : goal.loop-vertex-init
 unfolding read_vertices
-loop-i-init c = (omega arith, rw (c.empty_vertices-vertices.ensures, sub-zero))
+loop-vertex-init c = rw (c.empty_vertices-vertices.ensures, take-append-drop, sub-zero)
 
-pub returns-in_default : goal.returns-in_default
-returns-in_default c = let r = c.before.before.before.before in
-    let l = r.loop-i in
-    rw (c.refused_vertices.ensures, c.vertex_refusal.ensures, c.in_default.is)
-    (ap vertices_read (sym (into_refused one next end _ l.vertices _ l.i _ l.i r.loop-i-test.true (sym (ap as_vertex c.in_default.is) ∙ r.read_vertex-a.ensures)) ∙ l.invariant.1))
+pub returns-in_err-v : goal.returns-in_err-v
+returns-in_err-v c =
+    let p = err_from_is_err_and c.from_residual.result c.from_residual.ensures.1 in
+    let l = c.loop-vertex in
+    let n : length l.vertex-items ≡ c.args.count = places (goal.at.returns-in_err-v c).At-loop-vertex in
+    rw (p.1, p.2) (sym (into_refused one next end _ (l.vertex-items ++ drop c.args.count no_vertices) _ l.vertex-index _ l.vertex-index (omega arith) c.in_err-v.ensures) ∙ l.invariant)
 
-pub bounds-vertices-i : goal.bounds-vertices-i
-bounds-vertices-i c = let l = c.before.before.before in omega (arith, l.requires.most, l.loop-i-test.true)
-
-pub loop-i-preserved : goal.loop-i-preserved
-loop-i-preserved c =
-    let r = c.before.before in
-    let l = r.loop-i in
-    (omega arith, sym (into_more one next end _ l.vertices _ l.i _ l.i r.loop-i-test.true (sym (ap as_vertex c.in-Value.is) ∙ r.read_vertex-a.ensures)) ∙ l.invariant.1)
+pub loop-vertex-preserved : goal.loop-vertex-preserved
+loop-vertex-preserved c =
+    let l = c.loop-vertex in
+    let n : length l.vertex-items ≡ c.args.count = places (goal.at.loop-vertex-preserved c).At-loop-vertex in
+    let rest = drop c.args.count no_vertices in
+    let laid = set-append_left l.vertex-items rest l.vertex-index c.in_ok-v.v (omega arith) in
+    ap (λ (vs : List Vertex). into vs (l.vertex-index + 1) (many one next end (c.args.count - (l.vertex-index + 1)) (l.vertex-index + 1) c.args.s.now c.in_ok-v.next.at)) (sym laid)
+    ∙ sym (into_more one next end _ (l.vertex-items ++ rest) _ l.vertex-index _ l.vertex-index (omega arith) c.in_ok-v.ensures) ∙ l.invariant
 
 pub returns : goal.returns
-returns c = let l = c.loop-i in
-    ap vertices_read (sym (into_end one next end _ l.vertices _ l.i _ l.i c.loop-i-test.false) ∙ l.invariant.1)
+returns c =
+    let l = c.loop-vertex in
+    let n : length l.vertex-items ≡ c.args.count = places (goal.at.returns c).At-loop-vertex in
+    rw c.empty_vertices-vertices.ensures (sym (into_end one next end _ (l.vertex-items ++ drop c.args.count no_vertices) _ l.vertex-index _ l.vertex-index (omega arith)) ∙ l.invariant)

@@ -1,10 +1,6 @@
--- `kerb_reader::writing::write_vertices` meets its contract: after the first vertex, those from i on are still to be written.
-use Prim.Native.Nat.{◌-◌}
+-- `kerb_reader::writing::write_vertices` meets its contract: after the first vertex, those of the others from i on are still to be written.
 use Rattle.kerb_reader.proofs.WriteLaws.{Writing}
 use Rattle.kerb_reader.proofs.writing.write_vertices.Given as goal
 
 abbrev pub invariant-loop-i : goal.invariant-loop-i
-invariant-loop-i l = Writing l.vertices l.count l.initial.xs l.initial.ys l.xs l.ys l.i
-
-abbrev pub decreases-loop-i : goal.decreases-loop-i
-decreases-loop-i l = l.count - l.i
+invariant-loop-i l = Writing l.others l.initial.xs l.initial.ys l.xs l.ys l.i

@@ -1,9 +1,0 @@
--- `kerb_reader::fields::vertex_refusal` meets its contract.
-
-use Rattle.kerb_reader.proofs.fields.vertex_refusal.Goals as goal
-
-pub returns-in_default : goal.returns-in_default
-returns-in_default c = rw c.in_default.is
-
-pub returns : goal.returns
-returns c = rw c.in-Refused.is
