@@ -7,13 +7,12 @@ use mathlib.Core.List.{List, [], ◌∷◌, Memᴰ}
 use mathlib.Core.Logic.{◌⊎◌, inl, inr}
 use native.Mathlib.Omega.{arith}
 use lib.ListN.{length, get_or}
+use Rattle.std.specs.Prelude.{Option, Some, None}
 use Rattle.number.specs.Read.{pick}
 use Rattle.plane.specs.declared.Vec2.{Vec2}
 use Rattle.walk.specs.Rig.{zero_vector}
 use Rattle.touching.specs.Touch.{touches, Meeting}
 use Rattle.touching.proofs.Common.{rule}
-use Rattle.kerb_line.specs.declared.Contact.{Contact}
-use Rattle.kerb_line.specs.declared.Contact.TheVariants as C
 use Rattle.kerb_line.specs.Contact.{Segment, segments, touches_one, lowest_from, lowest_touch}
 
 not_both : {t : Bool} → t ≡ true → t ≡ false → ⊥
@@ -67,9 +66,9 @@ module _ (ss : List Segment) where
     here : test olds news place ≡ true
     lower : (j : ℕ) → j < place → test olds news j ≡ false
 
-  abbrev Says : ℕ → List Vec2 → List Vec2 → Contact → Type 0
-  Says p olds news C.Nothing = (j : ℕ) → j < length olds → test olds news j ≡ false
-  Says p olds news (C.Point q) = Lowest p olds news q
+  abbrev Says : ℕ → List Vec2 → List Vec2 → Option ℕ → Type 0
+  Says p olds news None = (j : ℕ) → j < length olds → test olds news j ≡ false
+  Says p olds news (Some q) = Lowest p olds news q
 
   says : (p : ℕ) (olds news : List Vec2) → length olds ≡ length news → Says p olds news (lowest_from p olds news ss)
   unfolding lowest_from
@@ -81,10 +80,10 @@ module _ (ss : List Segment) where
       on n f h zero l = f
       on n f h (suc j) l = h j (omega arith)
 
-      by : (t : Bool) → touches_one a b ss ≡ t → (x : Contact) → Says (p + 1) olds news x → Says p (a ∷ olds) (b ∷ news) (pick t (C.Point p) x)
+      by : (t : Bool) → touches_one a b ss ≡ t → (x : Option ℕ) → Says (p + 1) olds news x → Says p (a ∷ olds) (b ∷ news) (pick t (Some p) x)
       by true f x h = record { place = 0; number = omega arith; below = omega arith; here = f; lower = λ j l. absurd (omega arith) }
-      by false f C.Nothing h = on (length olds) f h
-      by false f (C.Point q) h = record { place = suc h.place; number = let e = h.number in omega arith; below = let l = h.below in omega arith; here = h.here; lower = on h.place f h.lower }
+      by false f None h = on (length olds) f h
+      by false f (Some q) h = record { place = suc h.place; number = let e = h.number in omega arith; below = let l = h.below in omega arith; here = h.here; lower = on h.place f h.lower }
 
 -- no move meets a segment of the kerb
 abbrev pub Clear : List Vec2 → List Vec2 → List Segment → Type 0
@@ -96,17 +95,17 @@ pub record LowestMeets (olds news : List Vec2) (ss : List Segment) (q : ℕ) : T
   pub meets : MeetsOne (get_or olds q zero_vector) (get_or news q zero_vector) ss
   pub lower : (j : ℕ) → j < q → MeetsOne (get_or olds j zero_vector) (get_or news j zero_vector) ss → ⊥
 
-abbrev pub ContactSays : List Vec2 → List Vec2 → List Segment → Contact → Type 0
-ContactSays olds news ss C.Nothing = Clear olds news ss
-ContactSays olds news ss (C.Point q) = LowestMeets olds news ss q
+abbrev pub ContactSays : List Vec2 → List Vec2 → List Segment → Option ℕ → Type 0
+ContactSays olds news ss None = Clear olds news ss
+ContactSays olds news ss (Some q) = LowestMeets olds news ss q
 
 pub contact_says : (olds news kerb : List Vec2) → length olds ≡ length news → ContactSays olds news (segments kerb) (lowest_touch olds news kerb)
 unfolding lowest_touch
 contact_says olds news kerb e = by (lowest_from 0 olds news (segments kerb)) (says (segments kerb) 0 olds news e)
   where
-    by : (x : Contact) → Says (segments kerb) 0 olds news x → ContactSays olds news (segments kerb) x
-    by C.Nothing h = λ j l m. meets_none (get_or olds j zero_vector) (get_or news j zero_vector) (segments kerb) (h j l) m
-    by (C.Point q) h =
+    by : (x : Option ℕ) → Says (segments kerb) 0 olds news x → ContactSays olds news (segments kerb) x
+    by None h = λ j l m. meets_none (get_or olds j zero_vector) (get_or news j zero_vector) (segments kerb) (h j l) m
+    by (Some q) h =
         let same : h.place ≡ q = let n = h.number in omega arith in
         let l = h.lower in
         record {

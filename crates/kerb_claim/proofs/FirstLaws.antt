@@ -1,9 +1,10 @@
 -- The claim, from what the report answers.
-use Prim.Native.Nat.{ℕ, zero, suc, ◌+◌, ◌-◌}
+use Prim.Native.Nat.{ℕ, zero, suc, ◌+◌}
 use mathlib.Core.Path.{◌≡◌, refl, sym, subst}
 use mathlib.Core.Bool.{Bool, true, false}
 use mathlib.Core.List.{List}
 use native.Mathlib.Omega.{arith}
+use Rattle.std.specs.Prelude.{Option, Some, None}
 use Rattle.number.specs.Read.{pick}
 use Rattle.plane.specs.declared.Vec2.{Vec2}
 use Rattle.path.specs.Laying.{PathRuns}
@@ -14,8 +15,6 @@ use Rattle.walk.proofs.RecordTests.{sound_record}
 use Rattle.stations.specs.Stepping.{points_at}
 use Rattle.run.specs.Walking.{steps_left}
 use Rattle.claim.specs.DemandThree.{Turn}
-use Rattle.kerb_line.specs.declared.Contact.{Contact}
-use Rattle.kerb_line.specs.declared.Contact.TheVariants as C
 use Rattle.kerb_line.specs.Kerb.{vertices, kerb_lent, kerb_sound}
 use Rattle.kerb_line.specs.Contact.{lowest_touch}
 use Rattle.kerb_report.specs.declared.KerbReport.{KerbReport}
@@ -33,9 +32,9 @@ Unrefused (R.Touch k p) = Unit {0}
 Unrefused (R.Stopped m u k) = Unit {0}
 Unrefused (R.Refused m) = ⊥
 
-first_unrefused : (k : ℕ) (x : Contact) (r : KerbReport) → Unrefused r → Unrefused (first_or k x r)
-first_unrefused k C.Nothing r h = h
-first_unrefused k (C.Point p) r h = tt
+first_unrefused : (k : ℕ) (x : Option ℕ) (r : KerbReport) → Unrefused r → Unrefused (first_or k x r)
+first_unrefused k None r h = h
+first_unrefused k (Some p) r h = tt
 
 after_unrefused : (k : ℕ) (o : Outcome) (r : KerbReport) → Unrefused r → Unrefused (after_step k o r)
 after_unrefused k made r h = h

@@ -1,10 +1,11 @@
 -- The look ahead of a report, followed by the step calls themselves.
-use Prim.Native.Nat.{ℕ, zero, suc, ◌+◌, ◌-◌, ◌≤◌, ◌<◌}
+use Prim.Native.Nat.{ℕ, zero, suc, ◌+◌, ◌≤◌, ◌<◌}
 use mathlib.Core.Path.{◌≡◌, refl, sym, ◌∙◌, ap, subst}
 use mathlib.Core.Bool.{true}
 use mathlib.Core.List.{List, [], ◌∷◌}
 use native.Mathlib.Omega.{arith}
 use lib.ListN.{length, get_or}
+use Rattle.std.specs.Prelude.{Option, Some, None}
 use Rattle.plane.specs.declared.Vec2.{Vec2}
 use Rattle.job.specs.declared.Vehicle.{Vehicle}
 use Rattle.path.specs.Laying.{PathRuns}
@@ -23,8 +24,6 @@ use Rattle.run.proofs.WalkingLaws.{is_open, made_step_lem}
 use Rattle.run.proofs.CourseLaws.{vehicle_stays}
 use Rattle.claim.specs.DemandThree.{Turn, Chain}
 use Rattle.claim.specs.WholeRun.{UntilRefused, last_answer}
-use Rattle.kerb_line.specs.declared.Contact.{Contact}
-use Rattle.kerb_line.specs.declared.Contact.TheVariants as C
 use Rattle.kerb_line.specs.Kerb.{KerbRuns, vertices}
 use Rattle.kerb_line.specs.Contact.{Segment, segments, lowest_touch}
 use Rattle.kerb_report.specs.declared.KerbReport.{KerbReport}
@@ -123,7 +122,7 @@ module _ (asked : ℕ) (path : PathRuns) (count : ℕ) (kerb : KerbRuns) where
           (subst (λ (s : Drawn). record_sound asked s ≡ true) (sym e) q.0, ap (λ (s : Drawn). s.station) e ∙ q.1)
 
       -- the first touch in it
-      touched : (ts : List Turn) (p : ℕ) → outcome_of t.result.answer ≡ made → ContactSays olds news ss (C.Point p) → FirstAt (from w) (t ∷ ts) (w.station + 1) p
+      touched : (ts : List Turn) (p : ℕ) → outcome_of t.result.answer ≡ made → ContactSays olds news ss (Some p) → FirstAt (from w) (t ∷ ts) (w.station + 1) p
       unfolding MadeCall record_after
       touched ts p m c = record {
         call = 0;
@@ -136,13 +135,13 @@ module _ (asked : ℕ) (path : PathRuns) (count : ℕ) (kerb : KerbRuns) where
       }
 
       -- by its answer
-      by_answer : (a : Outcome) → outcome_of t.result.answer ≡ a → AnswersSo a → (x : Contact) → ContactSays olds news ss x
+      by_answer : (a : Outcome) → outcome_of t.result.answer ≡ a → AnswersSo a → (x : Option ℕ) → ContactSays olds news ss x
           → (ts : List Turn) → UntilRefused (t ∷ ts) → (later : KerbReport) → (outcome_of t.result.answer ≡ made → UntilRefused ts → Seen t.result.walk ts later)
           → Seen w (t ∷ ts) (after_step (w.station + 1) a (first_or (w.station + 1) x later))
       unfolding UntilRefused last_answer
       by_answer made e a x c [] q later rest = absurd (q e)
-      by_answer made e a (C.Point p) c (u ∷ ts) q later rest = touched (u ∷ ts) p e c
-      by_answer made e a C.Nothing c (u ∷ ts) q later rest = shifted w t (λ p y. let z = meets_of p y in c p z.0 z.1) (made_kept e).1 u ts later (rest e q.1)
+      by_answer made e a (Some p) c (u ∷ ts) q later rest = touched (u ∷ ts) p e c
+      by_answer made e a None c (u ∷ ts) q later rest = shifted w t (λ p y. let z = meets_of p y in c p z.0 z.1) (made_kept e).1 u ts later (rest e q.1)
       by_answer (refused m) e a x c ts q later rest = absurd a
       by_answer (refused_at m v) e a x c [] q later rest = record { clear = alone_clear w t (λ f. unit_not_made m v (sym e ∙ f)); ended = e; counted = refl }
       by_answer (refused_at m v) e a x c (u ∷ ts) q later rest = absurd (unit_not_made m v (sym e ∙ q.0))

@@ -1,17 +1,15 @@
 -- No move inside the bounds touches a segment beyond them.
-use Prim.Native.Nat.{ℕ, ◌+◌, ◌<◌}
-use mathlib.Core.Path.{◌≡◌, refl, subst}
-use mathlib.Core.Bool.{Bool, true, false}
-use mathlib.Core.List.{List, [], ◌∷◌}
-use native.Mathlib.Decide.{dec_lt}
+use Prim.Native.Nat.{ℕ, ◌+◌, ◌<◌, ◌^◌}
+use mathlib.Core.Path.{◌≡◌, refl}
+use mathlib.Core.Bool.{true, false}
+use mathlib.Core.List.{List}
 use native.Mathlib.Omega.{arith}
-use lib.ListN.{get_or}
+use borrow.Author.Count.{below_more}
+use lib.ListN.{length, get_or}
 use lib.IntN.{ℤ}
-use lib.Signed.{◌≤ℤ◌, ◌<ℤ◌, le_z, lt_z, lt_z_yes, ≤ℤ_refl}
-use Rattle.exact.proofs.Polynomial.{◌⊕◌, lit, var}
-use Rattle.exact.proofs.Order.{of_true, le_z_true, le_z_false, ≤ℤ-trans}
-use Rattle.exact.proofs.Certificate.{◌⊞◌, num, hyp, le}
-use Rattle.number.specs.Read.{pick}
+use lib.Signed.{◌≤ℤ◌, ◌<ℤ◌, lt_z, lt_z_yes, mag}
+use Rattle.exact.proofs.Order.{of_true}
+use Rattle.exact.proofs.Machine.{reread, reread_result}
 use Rattle.number.proofs.FieldCodec.{both}
 use Rattle.plane.specs.declared.Vec2.{Vec2}
 use Rattle.touching.specs.Touch.{touches}
@@ -19,61 +17,25 @@ use Rattle.touching.proofs.Shadows.{some_of}
 use Rattle.touching.proofs.Apart.{apart_x, apart_y, second_below, second_above}
 use Rattle.kerb_line.specs.declared.bounds.Bounds.{Bounds}
 use Rattle.kerb_line.specs.Kerb.{origin}
-use Rattle.kerb_line.specs.Inner.{smaller, greater, widened, Inside, Enclosed, beyond}
+use Rattle.kerb_line.specs.Inner.{Inside, TakesIn, TakesAllIn, Enclosed, beyond}
 
--- what the smaller and the greater of a and b are
-record Sorted (a b least most : ℤ) : Type 0 where
-  least_first : least ≤ℤ a
-  least_second : least ≤ℤ b
-  most_first : a ≤ℤ most
-  most_second : b ≤ℤ most
+-- a number at most two others, and one at least them, read again from their bits
+module _ {r a b : ℤ} (ok : mag r < 2 ^ 63) (p : reread a ≡ a) (q : reread b ≡ b) where
+  pub least_of : r ≤ℤ reread a → r ≤ℤ reread b → (reread r ≤ℤ a) × (reread r ≤ℤ b)
+  least_of h k = rw (reread_result ok refl) (rw p at h, rw q at k)
 
-sorted : (a b : ℤ) → Sorted a b (smaller a b) (greater a b)
-sorted a b = by (le_z a b) refl
-  where
-    not-≤ : le_z a b ≡ false → b ≤ℤ a
-    not-≤ e = le {ρ = a ∷ b ∷ []} (var 1) (var 0) (hyp (var 1 ⊕ lit 1) (var 0) (le_z_false a b e) ⊞ num 1) tt
+  pub most_of : reread a ≤ℤ r → reread b ≤ℤ r → (a ≤ℤ reread r) × (b ≤ℤ reread r)
+  most_of h k = rw (reread_result ok refl) (rw p at h, rw q at k)
 
-    by : (t : Bool) → le_z a b ≡ t → Sorted a b (pick t a b) (pick t b a)
-    by true e = record { least_first = ≤ℤ_refl a; least_second = le_z_true e; most_first = le_z_true e; most_second = ≤ℤ_refl b }
-    by false e = record { least_first = not-≤ e; least_second = ≤ℤ_refl b; most_first = ≤ℤ_refl a; most_second = not-≤ e }
+-- bounds that were widened by no place, by one more, and by two lists of them
+pub around_none : (b : Bounds) (places : List Vec2) → TakesAllIn b places 0 b
+around_none b places = record { kept = λ u i. i; taken = λ p h. absurd (omega arith) }
 
--- widened bounds take in the place, and keep what they held
-module _ (b : Bounds) (v : Vec2) where
-  taken_in : Inside (widened b v) v
-  taken_in =
-      record {
-        west = (sorted b.west v.x).least_second;
-        east = (sorted b.east v.x).most_second;
-        south = (sorted b.south v.y).least_second;
-        north = (sorted b.north v.y).most_second;
-      }
+pub around_more : {b c d : Bounds} {places : List Vec2} {n : ℕ} → TakesAllIn b places n c → TakesIn c (get_or places n origin) d → TakesAllIn b places (n + 1) d
+around_more {b} {c} {d} {places} {n} f g = record { kept = λ u i. g.kept u (f.kept u i); taken = below_more (λ p. Inside d (get_or places p origin)) n (λ p h. g.kept _ (f.taken p h)) g.taken }
 
-  kept_in : (u : Vec2) → Inside b u → Inside (widened b v) u
-  kept_in u i =
-      record {
-        west = ≤ℤ-trans (sorted b.west v.x).least_first i.west;
-        east = ≤ℤ-trans i.east (sorted b.east v.x).most_first;
-        south = ≤ℤ-trans (sorted b.south v.y).least_first i.south;
-        north = ≤ℤ-trans i.north (sorted b.north v.y).most_first;
-      }
-
-pub enclosed_none : (b : Bounds) (olds news : List Vec2) → Enclosed b 0 olds news
-enclosed_none b olds news = record { old = λ p h. absurd (omega arith); new = λ p h. absurd (omega arith) }
-
--- one point more
-pub enclosed_next : (b : Bounds) (n : ℕ) (olds news : List Vec2) → Enclosed b n olds news → Enclosed (widened (widened b (get_or olds n origin)) (get_or news n origin)) (n + 1) olds news
-enclosed_next b n olds news e =
-    let first = widened b (get_or olds n origin) in
-    let second = widened first (get_or news n origin) in
-    record {
-      old = λ p h. last_or olds p second (dec_lt p n) h (λ l. kept_in first (get_or news n origin) _ (kept_in b (get_or olds n origin) _ (e.old p l))) (kept_in first (get_or news n origin) _ (taken_in b (get_or olds n origin)));
-      new = λ p h. last_or news p second (dec_lt p n) h (λ l. kept_in first (get_or news n origin) _ (kept_in b (get_or olds n origin) _ (e.new p l))) (taken_in first (get_or news n origin));
-    }
-  where
-    last_or : (l : List Vec2) (p : ℕ) (c : Bounds) → Dec (p < n) → p < n + 1 → (p < n → Inside c (get_or l p origin)) → Inside c (get_or l n origin) → Inside c (get_or l p origin)
-    last_or l p c (yes m) h below last = below m
-    last_or l p c (no m) h below last = let same : n ≡ p = omega arith in subst (λ (q : ℕ). Inside c (get_or l q origin)) same last
+pub enclosed_by : {a b c : Bounds} {olds news : List Vec2} → TakesAllIn a olds (length olds) b → TakesAllIn b news (length news) c → Enclosed c olds news
+enclosed_by f g = record { old = λ p h. g.kept _ (f.taken p h); new = g.taken }
 
 -- a segment wholly to one side
 pub none_beyond : (b : Bounds) (v w : Vec2) → beyond b v w ≡ true → (old new : Vec2) → Inside b old → Inside b new → touches old new v w ≡ false

@@ -26,12 +26,15 @@ module _ (k : KerbRuns) where
       let r = both (leb 1 n) (leb n 500) h.0 in
       (leb-true 1 n r.0, leb-true n 500 r.1)
 
-  pub vertex_lent : (n i : ℕ) → kerb_lent n k ≡ true → i < n → VertexLent i k
+  pub lent_room : (n : ℕ) → kerb_lent n k ≡ true → (n ≤ length k.xs) × (n ≤ length k.ys)
   unfolding kerb_lent
-  vertex_lent n i e l =
+  lent_room n e =
       let h = both (between 1 500 n) (leb n (length k.xs) && leb n (length k.ys)) e in
       let r = both (leb n (length k.xs)) (leb n (length k.ys)) h.1 in
-      record { xs = omega (arith, leb-true n (length k.xs) r.0); ys = omega (arith, leb-true n (length k.ys) r.1) }
+      (leb-true n (length k.xs) r.0, leb-true n (length k.ys) r.1)
+
+  pub vertex_lent : (n i : ℕ) → kerb_lent n k ≡ true → i < n → VertexLent i k
+  vertex_lent n i e l = let r = lent_room n e in record { xs = omega (arith, r.0); ys = omega (arith, r.1) }
 
   pub sound_none : kerb_sound 0 k ≡ true
   unfolding kerb_sound

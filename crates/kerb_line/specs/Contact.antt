@@ -1,10 +1,8 @@
 -- Which points of a rig touch a kerb as they move (02, N4: the "lowest point, whose move touches or crosses a kerb segment"; "end points count, a point is a segment of no length").
-use Rattle.std.specs.Prelude.{ℕ, ◌+◌, Bool, false, ◌||◌, List, [], ◌∷◌}
+use Rattle.std.specs.Prelude.{ℕ, ◌+◌, Bool, false, ◌||◌, List, [], ◌∷◌, Option, Some, None}
 use Rattle.number.specs.Read.{pick}
 use Rattle.plane.specs.declared.Vec2.{Vec2}
 use Rattle.touching.specs.Touch.{touches}
-use Rattle.kerb_line.specs.declared.Contact.{Contact}
-use Rattle.kerb_line.specs.declared.Contact.TheVariants as C
 
 pub record Segment : Type 0 where
   pub from : Vec2
@@ -30,11 +28,11 @@ touches_one a b [] = false
 touches_one a b (s ∷ ss) = touches a b s.from s.to || touches_one a b ss
 
 -- the lowest of the points from number p on whose move does
-unfoldable pub lowest_from : ℕ → List Vec2 → List Vec2 → List Segment → Contact
-lowest_from p [] news ss = C.Nothing
-lowest_from p (a ∷ olds) [] ss = C.Nothing
-lowest_from p (a ∷ olds) (b ∷ news) ss = pick (touches_one a b ss) (C.Point p) (lowest_from (p + 1) olds news ss)
+unfoldable pub lowest_from : ℕ → List Vec2 → List Vec2 → List Segment → Option ℕ
+lowest_from p [] news ss = None
+lowest_from p (a ∷ olds) [] ss = None
+lowest_from p (a ∷ olds) (b ∷ news) ss = pick (touches_one a b ss) (Some p) (lowest_from (p + 1) olds news ss)
 
 -- of the points that go from their old places to their new, and a kerb by its vertices
-unfoldable pub lowest_touch : List Vec2 → List Vec2 → List Vec2 → Contact
+unfoldable pub lowest_touch : List Vec2 → List Vec2 → List Vec2 → Option ℕ
 lowest_touch olds news kerb = lowest_from 0 olds news (segments kerb)

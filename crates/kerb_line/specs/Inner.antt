@@ -1,9 +1,7 @@
 -- What only the inner functions of this crate speak of.
-use Rattle.std.specs.Prelude.{ℕ, ◌+◌, ◌-◌, ◌≤◌, ◌<◌, ◌≡◌, Bool, true, false, ◌&&◌, ◌||◌, List, ℤ, length, get_or, ◌≤ℤ◌}
-use Rattle.std.specs.Int.Signed.{le_z, lt_z}
-use Rattle.number.specs.Read.{pick}
+use Rattle.std.specs.Prelude.{ℕ, ◌+◌, ◌-◌, ◌<◌, ◌≡◌, Bool, true, false, ◌&&◌, ◌||◌, List, length, get_or, ◌≤ℤ◌, Option, Some, None}
+use Rattle.std.specs.Int.Signed.{lt_z}
 use Rattle.plane.specs.declared.Vec2.{Vec2}
-use Rattle.marks.specs.Requires.{Counted}
 use Rattle.touching.specs.Touch.{touches, OnMap}
 use Rattle.kerb_line.specs.declared.bounds.Bounds.{Bounds}
 use Rattle.kerb_line.specs.Kerb.{origin, KerbRuns, vertex_at, vertices_from}
@@ -18,11 +16,16 @@ pub record VertexLent (i : ℕ) (k : KerbRuns) : Type 0 where
 abbrev pub segments_after : ℕ → ℕ → KerbRuns → List Segment
 segments_after i n k = segments_from (vertex_at k i) (vertices_from (i + 1) (n - 1 - i) k)
 
--- the lowest of the first n points that pass a test, or n where none does
-pub record Lowest (n : ℕ) (test : ℕ → Bool) (r : ℕ) : Type 0 where
-  pub most : r ≤ n
+-- the lowest of the first n points that pass a test
+pub record LowestAt (n : ℕ) (test : ℕ → Bool) (r : ℕ) : Type 0 where
+  pub below : r < n
+  pub here : test r ≡ true
   pub before : (p : ℕ) → p < r → test p ≡ false
-  pub here : r < n → test r ≡ true
+
+-- or none, where none does
+abbrev pub LowestOf : ℕ → (ℕ → Bool) → Option ℕ → Type 0
+LowestOf n test None = (p : ℕ) → p < n → test p ≡ false
+LowestOf n test (Some r) = LowestAt n test r
 
 -- the move of point p touches a segment, or one of several
 abbrev pub move_touches : List Vec2 → List Vec2 → Vec2 → Vec2 → ℕ → Bool
@@ -31,23 +34,13 @@ move_touches olds news v w p = touches (get_or olds p origin) (get_or news p ori
 abbrev pub move_touches_one : List Vec2 → List Vec2 → List Segment → ℕ → Bool
 move_touches_one olds news ss p = touches_one (get_or olds p origin) (get_or news p origin) ss
 
--- what testing so many moves against a segment asks
-pub record Testable (n : ℕ) (olds news : List Vec2) (v w : Vec2) : Type 0 where
-  pub points : Counted n
-  pub old : (p : ℕ) → p < n → OnMap (get_or olds p origin)
-  pub new : (p : ℕ) → p < n → OnMap (get_or news p origin)
+-- what testing moves against a segment asks
+pub record Testable (olds news : List Vec2) (v w : Vec2) : Type 0 where
+  pub moves : length olds ≡ length news
+  pub old : (p : ℕ) → p < length olds → OnMap (get_or olds p origin)
+  pub new : (p : ℕ) → p < length news → OnMap (get_or news p origin)
   pub from : OnMap v
   pub to : OnMap w
-
-abbrev pub smaller : ℤ → ℤ → ℤ
-smaller a b = pick (le_z a b) a b
-
-abbrev pub greater : ℤ → ℤ → ℤ
-greater a b = pick (le_z a b) b a
-
--- the bounds widened to take in a place
-abbrev pub widened : Bounds → Vec2 → Bounds
-widened b v = record { west = smaller b.west v.x; east = greater b.east v.x; south = smaller b.south v.y; north = greater b.north v.y }
 
 -- a place lies inside bounds
 pub record Inside (b : Bounds) (v : Vec2) : Type 0 where
@@ -56,10 +49,19 @@ pub record Inside (b : Bounds) (v : Vec2) : Type 0 where
   pub south : b.south ≤ℤ v.y
   pub north : v.y ≤ℤ b.north
 
--- so many points stay inside bounds as they move
-pub record Enclosed (b : Bounds) (n : ℕ) (olds news : List Vec2) : Type 0 where
-  pub old : (p : ℕ) → p < n → Inside b (get_or olds p origin)
-  pub new : (p : ℕ) → p < n → Inside b (get_or news p origin)
+-- bounds b, widened to c by a place, or by the first n of several
+pub record TakesIn (b : Bounds) (v : Vec2) (c : Bounds) : Type 0 where
+  pub kept : (u : Vec2) → Inside b u → Inside c u
+  pub taken : Inside c v
+
+pub record TakesAllIn (b : Bounds) (places : List Vec2) (n : ℕ) (c : Bounds) : Type 0 where
+  pub kept : (u : Vec2) → Inside b u → Inside c u
+  pub taken : (p : ℕ) → p < n → Inside c (get_or places p origin)
+
+-- points stay inside bounds as they move
+pub record Enclosed (b : Bounds) (olds news : List Vec2) : Type 0 where
+  pub old : (p : ℕ) → p < length olds → Inside b (get_or olds p origin)
+  pub new : (p : ℕ) → p < length news → Inside b (get_or news p origin)
 
 -- a segment lies wholly west, east, south or north of bounds
 unfoldable pub beyond : Bounds → Vec2 → Vec2 → Bool

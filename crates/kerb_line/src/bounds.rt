@@ -1,9 +1,7 @@
 // The bounds of a step's moves: a segment that lies beyond them is told by comparisons alone, for all points at once.
-ghost use Rattle.std.specs.Prelude.{◌≡◌};
-ghost use Rattle.marks.specs.Requires.{Counted};
-ghost use Rattle.kerb_line.specs.Inner.{smaller as smaller_z, greater as greater_z, widened as widened_of, Enclosed, beyond as beyond_z};
+ghost use Rattle.std.specs.Prelude.{◌≡◌, length};
+ghost use Rattle.kerb_line.specs.Inner.{TakesIn, TakesAllIn, Enclosed, beyond as beyond_z};
 
-use marks::POINT_CAPACITY;
 use plane::Vec2;
 
 #[derive(Clone, Copy)]
@@ -14,74 +12,52 @@ pub(crate) struct Bounds {
     pub north: i64,
 }
 
-fn smaller(a: i64, b: i64) -> i64
-    ensures { result ≡ smaller_z a b }
-{
-    if a <= b { a } else { b }
-}
+// Bounds that hold no place yet.
+const NOWHERE: Bounds = Bounds {
+    west: i64::MAX,
+    east: i64::MIN,
+    south: i64::MAX,
+    north: i64::MIN,
+};
 
-fn greater(a: i64, b: i64) -> i64
-    ensures { result ≡ greater_z a b }
-{
-    if a <= b { b } else { a }
-}
-
-// The bounds widened to take in a place.
-fn widened(b: Bounds, v: Vec2) -> Bounds
-    ensures { result ≡ widened_of b v }
-{
-    let x = v.x;
-    let y = v.y;
-    Bounds {
-        west: smaller(b.west, x),
-        east: greater(b.east, x),
-        south: smaller(b.south, y),
-        north: greater(b.north, y),
+impl Bounds {
+    // The bounds widened to take in a place.
+    fn widened(self, v: Vec2) -> Bounds
+        ensures { TakesIn self v result }
+    {
+        Bounds {
+            west: self.west.min(v.x),
+            east: self.east.max(v.x),
+            south: self.south.min(v.y),
+            north: self.north.max(v.y),
+        }
     }
-}
 
-// Bounds that hold so many points, before a step and after it.
-pub(crate) fn of_moves(
-    count: usize,
-    olds: [Vec2; POINT_CAPACITY],
-    news: [Vec2; POINT_CAPACITY],
-) -> Bounds
-    requires { Counted count }
-    ensures { Enclosed result count olds news }
-{
-    let first = olds[0];
-    let x = first.x;
-    let y = first.y;
-    let mut b = Bounds {
-        west: x,
-        east: x,
-        south: y,
-        north: y,
-    };
-    let mut p: usize = 0;
-    while p < count {
-        let old = olds[p];
-        let new = news[p];
-        b = widened(widened(b, old), new);
-        p += 1;
+    // The bounds widened to take in all of these places.
+    fn around(self, places: &[Vec2]) -> Bounds
+        ensures { TakesAllIn self places.now (length places.now) result }
+    {
+        let mut bounds = self;
+        for place in places {
+            bounds = bounds.widened(*place);
+        }
+        bounds
     }
-    b
-}
 
-// Whether the segment from v to w lies wholly to one side of the bounds.
-pub(crate) fn beyond(b: Bounds, v: Vec2, w: Vec2) -> bool
-    ensures { result ≡ beyond_z b v w }
-{
-    let vx = v.x;
-    let vy = v.y;
-    let wx = w.x;
-    let wy = w.y;
-    let west = b.west;
-    let east = b.east;
-    let south = b.south;
-    let north = b.north;
-    ((vx < west) & (wx < west))
-        | ((east < vx) & (east < wx))
-        | ((vy < south) & (wy < south))
-        | ((north < vy) & (north < wy))
+    // Bounds that hold all points, before a step and after it.
+    pub(crate) fn of_moves(olds: &[Vec2], news: &[Vec2]) -> Bounds
+        ensures { Enclosed result olds.now news.now }
+    {
+        NOWHERE.around(olds).around(news)
+    }
+
+    // Whether the segment from v to w lies wholly to one side of the bounds.
+    pub(crate) fn beyond(self, v: Vec2, w: Vec2) -> bool
+        ensures { result ≡ beyond_z self v w }
+    {
+        ((v.x < self.west) & (w.x < self.west))
+            | ((self.east < v.x) & (self.east < w.x))
+            | ((v.y < self.south) & (w.y < self.south))
+            | ((self.north < v.y) & (self.north < w.y))
+    }
 }

@@ -5,8 +5,9 @@ use mathlib.Core.Bool.{true}
 use mathlib.Core.List.{List}
 use native.Mathlib.Omega.{arith}
 use borrow.Author.Tests.{le-leb}
-use lib.ListN.{length, get_or}
-use lib.Seq.{sets, get_or-take}
+use lib.ListN.{length, get_or, take}
+use lib.Seq.{sets}
+use Rattle.std.specs.Prelude.{Option, Some, None}
 use Rattle.number.proofs.FieldCodec.{and}
 use Rattle.plane.specs.declared.Vec2.{Vec2}
 use Rattle.job.specs.declared.Vehicle.{Vehicle}
@@ -32,8 +33,6 @@ use Rattle.run.specs.Walking.{steps_left, Going}
 use Rattle.run.proofs.WalkingLaws.{is_open, made_step_lem}
 use Rattle.run.proofs.CourseLaws.{vehicle_stays}
 use Rattle.touching.specs.Touch.{OnMap}
-use Rattle.kerb_line.specs.declared.Contact.{Contact}
-use Rattle.kerb_line.specs.declared.Contact.TheVariants as C
 use Rattle.kerb_line.specs.Kerb.{KerbRuns, vertices}
 use Rattle.kerb_line.specs.Contact.{lowest_touch}
 use Rattle.kerb_report.specs.declared.KerbReport.{KerbReport}
@@ -110,7 +109,7 @@ module _ (asked : ℕ) (path : PathRuns) (n : ℕ) (kerb : KerbRuns) where
     abbrev later : KerbReport
     later = look_ahead (asked - (w.station + 2)) asked path (vertices n kerb) (draw_step (view w) c).state
 
-    abbrev moved : Contact
+    abbrev moved : Option ℕ
     moved = lowest_touch (points_at (view w) c) (points_at (draw_step (view w) c).state c) (vertices n kerb)
 
     pub stopped_here : (outcome_of next.answer ≡ made → ⊥)
@@ -144,25 +143,23 @@ module _ (asked : ℕ) (path : PathRuns) (n : ℕ) (kerb : KerbRuns) where
       whole = sym (look_next asked path (vertices n kerb) (view w) h ∙ ap (λ (o : Outcome). after_step (w.station + 1) o (first_or (w.station + 1) moved later)) is_made_lem)
 
       -- the move of its points, from the walk as it stood to the walk as it stands
-      module _ (touch : Contact) (t : touch ≡ lowest_touch (points_at (view w) c) (points_at (view next.walk) c) (vertices n kerb)) where
+      module _ (touch : Option ℕ) (t : touch ≡ lowest_touch (points_at (view w) c) (points_at (view next.walk) c) (vertices n kerb)) where
         moved_so : touch ≡ moved
         moved_so = t ∙ ap (λ (s : Drawn). lowest_touch (points_at (view w) c) (points_at s c) (vertices n kerb)) drawn_state
 
-        pub touched_here : (p : ℕ) → touch ≡ C.Point p → R.Touch (w.station + 1) p ≡ look_ahead (steps_left asked (view w)) asked path (vertices n kerb) (view w)
-        touched_here p f = ap (λ (x : Contact). first_or (w.station + 1) x later) (sym f ∙ moved_so) ∙ whole
+        pub touched_here : (p : ℕ) → touch ≡ Some p → R.Touch (w.station + 1) p ≡ look_ahead (steps_left asked (view w)) asked path (vertices n kerb) (view w)
+        touched_here p f = ap (λ (x : Option ℕ). first_or (w.station + 1) x later) (sym f ∙ moved_so) ∙ whole
 
-        pub clear_here : touch ≡ C.Nothing
+        pub clear_here : touch ≡ None
             → look_ahead (steps_left asked (view next.walk)) asked path (vertices n kerb) (view next.walk) ≡ look_ahead (steps_left asked (view w)) asked path (vertices n kerb) (view w)
         clear_here f =
             let left : steps_left asked (view next.walk) ≡ asked - (w.station + 2) = let o = one_on in omega arith in
             ap (λ (x : ℕ). look_ahead x asked path (vertices n kerb) (view next.walk)) left ∙ ap (look_ahead (asked - (w.station + 2)) asked path (vertices n kerb)) drawn_state
-            ∙ ap (λ (x : Contact). first_or (w.station + 1) x later) (sym f ∙ moved_so) ∙ whole
+            ∙ ap (λ (x : Option ℕ). first_or (w.station + 1) x later) (sym f ∙ moved_so) ∙ whole
 
 -- the points of a rig, at the start of an array, lie near enough to be looked at
-pub on_map : {v : Vehicle} {ds : List Vec2} {f : Vec2} → RigAt v ds f → {count : ℕ} {l : List Vec2} → count ≡ point_count v → l ≡ sets no_points 0 (rig_points v ds f)
-    → (k : ℕ) → k < count → OnMap (get_or l k zero_vector)
-on_map {v} {ds} {f} a {count} {l} e g k h =
+pub on_map : {v : Vehicle} {ds : List Vec2} {f : Vec2} → RigAt v ds f → {count : ℕ} {l : List Vec2} → count ≡ point_count v → l ≡ sets no_points 0 (rig_points v ds f) → (k : ℕ) → OnMap (get_or (take count l) k zero_vector)
+on_map {v} {ds} {f} a {count} {l} e g k =
     let p = points_sized a k in
-    let same : get_or l k zero_vector ≡ get_or (rig_points v ds f) k zero_vector =
-    sym (get_or-take count l k zero_vector h) ∙ ap (λ (x : List Vec2). get_or x k zero_vector) (taken_as v a.rig.most ds f e g) in
+    let same : get_or (take count l) k zero_vector ≡ get_or (rig_points v ds f) k zero_vector = ap (λ (x : List Vec2). get_or x k zero_vector) (taken_as v a.rig.most ds f e g) in
     rw same (record { x = p.x; y = p.y })

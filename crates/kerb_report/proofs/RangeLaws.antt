@@ -1,11 +1,12 @@
 -- What can stand in a report: which numbers, units, steps and points.
-use Prim.Native.Nat.{ℕ, zero, suc, ◌+◌, ◌-◌, ◌≤◌, ◌<◌}
+use Prim.Native.Nat.{ℕ, zero, suc, ◌+◌, ◌≤◌, ◌<◌}
 use mathlib.Core.Path.{◌≡◌, refl}
 use mathlib.Core.Bool.{Bool, true, false}
 use mathlib.Core.List.{List, [], ◌∷◌}
 use mathlib.Core.Logic.{◌⊎◌, inl, inr}
 use native.Mathlib.Omega.{arith}
 use lib.ListN.{length, length-take}
+use Rattle.std.specs.Prelude.{Option, Some, None}
 use Rattle.number.specs.Read.{pick}
 use Rattle.plane.specs.declared.Vec2.{Vec2}
 use Rattle.path.specs.Laying.{PathRuns}
@@ -24,8 +25,6 @@ use Rattle.stations.proofs.CallLaws.{step_open}
 use Rattle.run.specs.Walking.{steps_left}
 use Rattle.run.proofs.StopLaws.{StopsIn, units_stop}
 use Rattle.run.proofs.WalkingLaws.{is_open, made_step_lem}
-use Rattle.kerb_line.specs.declared.Contact.{Contact}
-use Rattle.kerb_line.specs.declared.Contact.TheVariants as C
 use Rattle.kerb_line.specs.Kerb.{KerbRuns, vertices, kerb_lent, kerb_sound}
 use Rattle.kerb_line.specs.Contact.{Segment, segments, touches_one, lowest_from, lowest_touch}
 use Rattle.kerb_report.specs.declared.KerbReport.{KerbReport}
@@ -35,9 +34,9 @@ use Rattle.kerb_report.specs.Ranges.{ReportedSo, ReportEnsures}
 use Rattle.kerb_report.proofs.LookLaws.{over_lent}
 
 -- a point that touches is one of those that move
-abbrev pub PointBelow : ℕ → Contact → Type 0
-PointBelow m C.Nothing = Unit {0}
-PointBelow m (C.Point p) = p < m
+abbrev pub PointBelow : ℕ → Option ℕ → Type 0
+PointBelow m None = Unit {0}
+PointBelow m (Some p) = p < m
 
 lowest_below_lem : (p : ℕ) (olds news : List Vec2) (ss : List Segment) → PointBelow (p + length olds) (lowest_from p olds news ss)
 unfolding lowest_from
@@ -45,18 +44,18 @@ lowest_below_lem p [] news ss = tt
 lowest_below_lem p (a ∷ olds) [] ss = tt
 lowest_below_lem p (a ∷ olds) (b ∷ news) ss = by (touches_one a b ss) (lowest_from (p + 1) olds news ss) (lowest_below_lem (p + 1) olds news ss)
   where
-    by : (t : Bool) (x : Contact) → PointBelow (p + 1 + length olds) x → PointBelow (p + suc (length olds)) (pick t (C.Point p) x)
+    by : (t : Bool) (x : Option ℕ) → PointBelow (p + 1 + length olds) x → PointBelow (p + suc (length olds)) (pick t (Some p) x)
     by true x h = omega arith
-    by false C.Nothing h = tt
-    by false (C.Point q) h = omega (arith, h)
+    by false None h = tt
+    by false (Some q) h = omega (arith, h)
 
 touch_below : (olds news kerb : List Vec2) (m : ℕ) → length olds ≤ m → PointBelow m (lowest_touch olds news kerb)
 unfolding lowest_touch
 touch_below olds news kerb m h = by (lowest_from 0 olds news (segments kerb)) (lowest_below_lem 0 olds news (segments kerb))
   where
-    by : (x : Contact) → PointBelow (0 + length olds) x → PointBelow m x
-    by C.Nothing k = tt
-    by (C.Point q) k = omega (arith, k)
+    by : (x : Option ℕ) → PointBelow (0 + length olds) x → PointBelow m x
+    by None k = tt
+    by (Some q) k = omega (arith, k)
 
 -- what a step that passed the tests answers: made, or 22 or 23 at a unit
 abbrev pub AnswersSo : Outcome → Type 0
@@ -75,9 +74,9 @@ step_answers s c o =
 
 -- a step that leads to station k of the path
 module _ (k : ℕ) (least : 1 ≤ k) (most : k ≤ 2000) where
-  first_so : (x : Contact) (later : KerbReport) → PointBelow point_capacity x → ReportedSo later → ReportedSo (first_or k x later)
-  first_so C.Nothing later h l = l
-  first_so (C.Point p) later h l = record { step = (least, most); point = h }
+  first_so : (x : Option ℕ) (later : KerbReport) → PointBelow point_capacity x → ReportedSo later → ReportedSo (first_or k x later)
+  first_so None later h l = l
+  first_so (Some p) later h l = record { step = (least, most); point = h }
 
   after_so : (o : Outcome) (r : KerbReport) → AnswersSo o → (o ≡ made → ReportedSo r) → ReportedSo (after_step k o r)
   after_so made r a h = h refl

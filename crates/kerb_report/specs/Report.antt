@@ -1,5 +1,5 @@
 -- The kerb report (02, N4): "From a copy of a walk, writing no run, report the first step (step k leads to station k), then lowest point, whose move touches or crosses a kerb segment".
-use Rattle.std.specs.Prelude.{ℕ, zero, suc, ◌+◌, List}
+use Rattle.std.specs.Prelude.{ℕ, zero, suc, ◌+◌, List, Option, Some, None}
 use Rattle.number.specs.Read.{pick}
 use Rattle.plane.specs.declared.Vec2.{Vec2}
 use Rattle.path.specs.Laying.{PathRuns}
@@ -8,8 +8,6 @@ use Rattle.walk.specs.Tests.{path_lent, path_sound, record_sound}
 use Rattle.walk.specs.Rig.{draw_step}
 use Rattle.stations.specs.Stepping.{points_at}
 use Rattle.run.specs.Walking.{steps_left}
-use Rattle.kerb_line.specs.declared.Contact.{Contact}
-use Rattle.kerb_line.specs.declared.Contact.TheVariants as C
 use Rattle.kerb_line.specs.Kerb.{KerbRuns, vertices, kerb_lent, kerb_sound}
 use Rattle.kerb_line.specs.Contact.{lowest_touch}
 use Rattle.kerb_report.specs.declared.KerbReport.{KerbReport}
@@ -20,9 +18,9 @@ abbrev pub call_over : ℕ → PathRuns → Call
 call_over asked path = record { asked = asked; path = path; reaches = record { left = asked; right = asked; marks = asked } }
 
 -- the point that touches in a step that leads to station k, or what the steps after it come to
-abbrev pub first_or : ℕ → Contact → KerbReport → KerbReport
-first_or k (C.Point p) later = R.Touch k p
-first_or k C.Nothing later = later
+abbrev pub first_or : ℕ → Option ℕ → KerbReport → KerbReport
+first_or k (Some p) later = R.Touch k p
+first_or k None later = later
 
 -- "a refused step ends the report with its refusal"; one that names no unit, which no sound path and record meet, would name unit 0
 abbrev pub after_step : ℕ → Outcome → KerbReport → KerbReport

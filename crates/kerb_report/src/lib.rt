@@ -14,7 +14,6 @@ ghost use Rattle.kerb_report.specs.Ranges.{ReportEnsures};
 ghost use Rattle.kerb_report.specs.Looking.{stopped_by};
 ghost use Rattle.kerb_report.specs.Requires.{Ahead, OnPath, Steppable};
 
-use kerb_line::Contact;
 use marks::POINT_CAPACITY;
 use plane::Vec2;
 use walk::{Advanced, StepAnswer, Walk};
@@ -108,8 +107,8 @@ fn look_ahead(
         }
         here = next.walk;
         let news = points_here(here, xs, ys, gxs, gys);
-        let contact = kerb_line::lowest_touch(count, olds, news, n, kerb_xs, kerb_ys);
-        if let Contact::Point(p) = contact {
+        let contact = kerb_line::lowest_touch(&olds[..count], &news[..count], n, kerb_xs, kerb_ys);
+        if let Some(p) = contact {
             return KerbReport::Touch(k, p);
         }
         olds = news;

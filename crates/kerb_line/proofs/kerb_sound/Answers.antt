@@ -1,48 +1,70 @@
--- `kerb_line::kerb_sound` meets its contract: the vertices before i are sound.
-use Prim.Native.Nat.{ℕ, ◌-◌}
-use mathlib.Core.Path.{◌≡◌, sym, ◌∙◌, ap₂, subst}
-use mathlib.Core.Bool.{true, ◌&&◌}
+-- `kerb_line::kerb_sound` meets its contract: the vertices before this one are sound.
+use Prim.Native.Nat.{ℕ, ◌<◌}
+use mathlib.Core.Path.{◌≡◌, sym, ◌∙◌, subst}
+use mathlib.Core.Bool.{true}
 use native.Mathlib.Omega.{arith}
+use borrow.Author.Rules.{rules}
+use lib.IntN.{pos}
+use lib.ListN.{length, take, length-take, get_or}
+use lib.Seq.{get_or-take, length-take-le}
+use Rattle.std.proofs.lemmas.List.{length_push}
+use Rattle.std.proofs.lemmas.Slice.Zip.{zip_turn, zip_end}
+use Rattle.exact.proofs.Machine.{reread32}
 use Rattle.kerb_line.specs.Kerb.{KerbRuns, kerb_runs, vertex_at, vertex_sound, kerb_sound}
-use Rattle.kerb_line.specs.Inner.{VertexLent}
-use Rattle.kerb_line.proofs.KerbLaws.{vertex_lent, sound_none, sound_next, unsound}
+use Rattle.kerb_line.proofs.KerbLaws.{lent_room, sound_none, sound_next, unsound}
 use Rattle.kerb_line.proofs.kerb_sound.Goals as goal
-use Rattle.kerb_line.proofs.kerb_sound.Goals.{After-coordinate_sound-in-loop-i, In-loop-i, Start}
+use Rattle.kerb_line.proofs.kerb_sound.Goals.{After-vertex_sound}
 
-abbrev given : Start → KerbRuns
-given s = kerb_runs s.args.xs.now s.args.ys.now
+pub slice_bounds-iter-end : goal.slice_bounds-iter-end
+slice_bounds-iter-end c = sym (length-take-le c.args.n c.args.xs.now (lent_room (kerb_runs c.args.xs.now c.args.ys.now) c.args.n c.requires.lent).0)
 
--- what is lent has vertex i
-lent : (c : In-loop-i) → VertexLent c.loop-i.i (given c.before.before)
-lent c = let s = c.before.before in vertex_lent (given s) s.args.n c.loop-i.i s.requires.lent c.loop-i-test.true
+pub slice_bounds-zip-end : goal.slice_bounds-zip-end
+slice_bounds-zip-end c = sym (length-take-le c.args.n c.args.ys.now (lent_room (kerb_runs c.args.xs.now c.args.ys.now) c.args.n c.requires.lent).1)
 
-pub loop-i-init : goal.loop-i-init
-loop-i-init c = (sound_none (given c), omega arith)
+pub loop-x-init : goal.loop-x-init
+loop-x-init c = sound_none (kerb_runs c.args.xs.now c.args.ys.now)
 
-pub coordinate_sound-requires : goal.coordinate_sound-requires
-coordinate_sound-requires c = record { inside = (lent c).xs }
+-- what the test of this vertex tells
+module _ (c : After-vertex_sound) where
+  abbrev i : ℕ
+  i = length c.loop-x.yielded
 
-pub coordinate_sound-requires-in-loop-i : goal.coordinate_sound-requires-in-loop-i
-coordinate_sound-requires-in-loop-i c = record { inside = (lent c.before).ys }
+  abbrev k : KerbRuns
+  k = kerb_runs c.args.xs.now c.args.ys.now
 
--- what the test of vertex i tells
-told : (c : After-coordinate_sound-in-loop-i) → let l = c.before.before.before in
-    (c.coordinate_sound.result && c.coordinate_sound-in-loop-i.result) ≡ vertex_sound (vertex_at (given l.before) l.loop-i.i)
-told c = ap₂ ◌&&◌ c.coordinate_sound.ensures c.coordinate_sound-in-loop-i.ensures
+  turn : (i < c.args.n) × (c.in-Some.x.now ≡ get_or c.args.xs.now i (pos 0)) × (c.in-Some.y.now ≡ get_or c.args.ys.now i (pos 0))
+  turn =
+      let n = c.args.n in
+      let xs = c.args.xs.now in
+      let ys = c.args.ys.now in
+      let t = zip_turn (take n xs) (take n ys) c.loop-x.yielded c.into_iter-x-iterator.result c.loop-x.x-iterator c.next.new.self c.next.result (cc) (cc) c.loop-x.yielded_by _ c.in-Some.is c.next.ensures.steps in
+      let l : i < n = omega (arith, t.0, length-take n xs) in
+      (l, t.2 (pos 0) ∙ get_or-take n xs i (pos 0) l, t.3 (pos 0) ∙ get_or-take n ys i (pos 0) l)
 
-pub loop-i-preserved : goal.loop-i-preserved
-loop-i-preserved c =
-    let l = c.before.before.before.before in
-    (sound_next (given l.before) l.loop-i.i l.loop-i.invariant.0 (sym (told c.before) ∙ c.if-coordinate_sound.true), omega arith)
+  told : c.vertex_sound.result ≡ vertex_sound (vertex_at k i)
+  told =
+      let x : reread32 c.in-Some.x.now ≡ c.in-Some.x.now = search rules in
+      let y : reread32 c.in-Some.y.now ≡ c.in-Some.y.now = search rules in
+      let at = turn in
+      c.vertex_sound.ensures ∙ (λ j. vertex_sound (record { x = (x ∙ at.1) j; y = (y ∙ at.2) j }))
 
-pub returns-else-coordinate_sound : goal.returns-else-coordinate_sound
-returns-else-coordinate_sound c =
-    let i = c.before.before.before in
-    let l = i.before in
-    sym (unsound (given l.before) l.args.n l.loop-i.i i.loop-i-test.true (sym (told c.before) ∙ c.if-coordinate_sound.false))
+pub returns-then-not-vertex_sound : goal.returns-then-not-vertex_sound
+returns-then-not-vertex_sound c =
+    let t = (goal.at.returns-then-not-vertex_sound c).After-vertex_sound in
+    sym (unsound (k t) c.args.n (i t) (turn t).0 (sym (told t) ∙ c.if-not-vertex_sound.true))
+
+pub loop-x-preserved : goal.loop-x-preserved
+loop-x-preserved c =
+    let t = (goal.at.loop-x-preserved c).After-vertex_sound in
+    rw length_push (sound_next (k t) (i t) c.loop-x.invariant (sym (told t) ∙ c.if-not-vertex_sound.false))
 
 pub returns : goal.returns
 returns c =
-    let l = c.before in
-    let end : l.loop-i.i ≡ l.args.n = omega arith in
-    sym (subst (λ (n : ℕ). kerb_sound n (given l.before) ≡ true) end l.loop-i.invariant.0)
+    let n = c.args.n in
+    let xs = c.args.xs.now in
+    let ys = c.args.ys.now in
+    let runs = kerb_runs xs ys in
+    let t = zip_end (take n xs) (take n ys) c.loop-x.yielded c.into_iter-x-iterator.result c.loop-x.x-iterator c.next.new.self c.next.result (cc) (cc) c.loop-x.yielded_by c.in-None.is c.next.ensures.steps in
+    let room = lent_room runs n c.requires.lent in
+    let all : length c.loop-x.yielded ≡ n = omega (arith, t, length-take-le n xs room.0, length-take-le n ys room.1) in
+    sym (subst (λ (m : ℕ). kerb_sound m runs ≡ true) all c.loop-x.invariant)

@@ -1,9 +1,9 @@
 -- `kerb_report::look_ahead` meets its contract: at each turn the look ahead from here is the look ahead from the start, and the old points are those of the walk here.
-use Prim.Native.Nat.{ℕ, ◌+◌, ◌-◌}
+use Prim.Native.Nat.{ℕ, ◌+◌, ◌≤◌}
 use mathlib.Core.Path.{◌≡◌, refl, sym, ◌∙◌, ap, ap₂}
 use mathlib.Core.List.{List}
 use native.Mathlib.Omega.{arith}
-use lib.ListN.{length, take}
+use lib.ListN.{length, take, length-take}
 use borrow.Author.Rules.{rules}
 use Rattle.plane.specs.declared.Vec2.{Vec2}
 use Rattle.job.specs.declared.Vehicle.{Vehicle}
@@ -124,7 +124,7 @@ points_here-news-requires c = let a = after c.before in let s = from a in on_pat
 -- its points, and those of the walk before it
 module _ (p : After-points_here-news) where
   abbrev step : Else-not-is_made
-  step = p.before.before
+  step = p.before.before.before
 
   abbrev done : After-next_step-next
   done = after step
@@ -160,40 +160,68 @@ module _ (p : After-points_here-news) where
       (taken_as (here at).vehicle old_rig.rig.rig.most (here at).d _ old_count at.loop-here.invariant.3)
       (taken_as (next done).walk.vehicle new_rig.rig.rig.most (next done).walk.d _ new_count p.points_here-news.ensures)
 
+-- the arrays have room for all points
+module _ (p : After-points_here-news) where
+  fewer : count p ≤ 20
+  fewer = rw (old_count p) (count_fits (here (at p)).vehicle (old_rig p).rig.rig.most)
+
+  olds_places : length (olds p) ≡ 20
+  olds_places = p.points_here-news.array_long
+
+  news_places : length p.points_here-news.result ≡ 20
+  news_places = search rules
+
+  olds_used : length (take (count p) (olds p)) ≡ count p
+  olds_used = omega (arith, length-take (count p) (olds p), fewer, olds_places)
+
+  news_used : length (take (count p) p.points_here-news.result) ≡ count p
+  news_used = omega (arith, length-take (count p) p.points_here-news.result, fewer, news_places)
+
+pub slice_bounds-olds-end : goal.slice_bounds-olds-end
+slice_bounds-olds-end c = omega (arith, fewer c, olds_places c)
+
+pub slice_bounds-lowest_touch-end : goal.slice_bounds-lowest_touch-end
+slice_bounds-lowest_touch-end c = sym (olds_used (goal.at.slice_bounds-lowest_touch-end c).After-points_here-news)
+
+pub slice_bounds-news-end : goal.slice_bounds-news-end
+slice_bounds-news-end c = let p = (goal.at.slice_bounds-news-end c).After-points_here-news in omega (arith, fewer p, news_places p)
+
+pub slice_bounds-lowest_touch-end-in-loop-here : goal.slice_bounds-lowest_touch-end-in-loop-here
+slice_bounds-lowest_touch-end-in-loop-here c = sym (news_used (goal.at.slice_bounds-lowest_touch-end-in-loop-here c).After-points_here-news)
+
 pub lowest_touch-contact-requires : goal.lowest_touch-contact-requires
 lowest_touch-contact-requires c =
+    let p = (goal.at.lowest_touch-contact-requires c).After-points_here-news in
     record {
-      points = record { most = rw (old_count c) (count_fits (here (at c)).vehicle (old_rig c).rig.rig.most) };
-      old = on_map (old_rig c).rig (old_count c) (at c).loop-here.invariant.3;
-      new = on_map (new_rig c).rig (new_count c) c.points_here-news.ensures;
-      lent = (ahead (at c)).kerb;
-      sound = (ahead (at c)).vertices;
+      moves = olds_used p ∙ sym (news_used p);
+      old = λ k h. on_map (old_rig p).rig (old_count p) (at p).loop-here.invariant.3 k;
+      new = λ k h. on_map (new_rig p).rig (new_count p) c.points_here-news.ensures k;
+      lent = (ahead (at p)).kerb;
+      sound = (ahead (at p)).vertices;
     }
 
-pub returns-in-Point : goal.returns-in-Point
-returns-in-Point c =
-    let t = c.before in
-    let p = t.before in
+pub returns-in-Some : goal.returns-in-Some
+returns-in-Some c =
+    let p = (goal.at.returns-in-Some c).After-points_here-news in
     let s = given p in
-    touched_here (asked s) (path s) (n s) (kerb s) (here (at p)) (next (done p)) (ahead (at p)) (done p).loop-here-test.true (ensured (done p)) (turned (step p)) t.lowest_touch-contact.result (t.lowest_touch-contact.ensures ∙ moves p) _ c.in-Point.is
+    touched_here (asked s) (path s) (n s) (kerb s) (here (at p)) (next (done p)) (ahead (at p)) (done p).loop-here-test.true (ensured (done p)) (turned (step p)) c.lowest_touch-contact.result (c.lowest_touch-contact.ensures ∙ moves p) _ c.in-Some.is
     ∙ (at p).loop-here.invariant.4
 
 pub loop-here-smaller : goal.loop-here-smaller
 loop-here-smaller c =
-    let p = c.before.before in
+    let p = (goal.at.loop-here-smaller c).After-points_here-news in
     let s = given p in
     omega (arith, one_on (asked s) (path s) (n s) (kerb s) (here (at p)) (next (done p)) (ahead (at p)) (done p).loop-here-test.true (ensured (done p)) (turned (step p)), (done p).loop-here-test.true)
 
 pub loop-here-preserved : goal.loop-here-preserved
 loop-here-preserved c =
-    let t = c.before in
-    let p = t.before in
+    let p = (goal.at.loop-here-preserved c).After-points_here-news in
     let s = given p in (
       passed (step p),
       new_count p,
       places_still (step p),
       p.points_here-news.ensures,
-      clear_here (asked s) (path s) (n s) (kerb s) (here (at p)) (next (done p)) (ahead (at p)) (done p).loop-here-test.true (ensured (done p)) (turned (step p)) t.lowest_touch-contact.result (t.lowest_touch-contact.ensures ∙ moves p) c.in_default.is
+      clear_here (asked s) (path s) (n s) (kerb s) (here (at p)) (next (done p)) (ahead (at p)) (done p).loop-here-test.true (ensured (done p)) (turned (step p)) c.lowest_touch-contact.result (c.lowest_touch-contact.ensures ∙ moves p) c.in_default.is
           ∙ (at p).loop-here.invariant.4,
     )
 

@@ -3,41 +3,36 @@ use Prim.Native.Nat.{◌<◌}
 use mathlib.Core.Path.{sym, subst}
 use mathlib.Core.List.{List}
 use native.Mathlib.Omega.{arith}
+use lib.ListN.{length}
 use Rattle.plane.specs.declared.Vec2.{Vec2}
 use Rattle.touching.specs.Touch.{OnMap}
-use Rattle.kerb_line.specs.Kerb.{KerbRuns, kerb_runs}
+use Rattle.kerb_line.specs.Kerb.{kerb_runs}
 use Rattle.kerb_line.specs.Contact.{Segment}
-use Rattle.kerb_line.specs.Inner.{Lowest, move_touches, move_touches_one}
+use Rattle.kerb_line.specs.Inner.{LowestOf, move_touches, move_touches_one}
 use Rattle.kerb_line.proofs.KerbLaws.{lent_some, vertex_lent, on_map}
 use Rattle.kerb_line.proofs.AlongLaws.{of_point, of_line}
 use Rattle.kerb_line.proofs.moves.lowest.Goals as goal
-use Rattle.kerb_line.proofs.moves.lowest.Goals.{Start}
-
-abbrev given : Start → KerbRuns
-given s = kerb_runs s.args.xs.now s.args.ys.now
 
 pub vertex_at-v-requires : goal.vertex_at-v-requires
-vertex_at-v-requires c =
-    let s = c.before in
-    vertex_lent (given s) s.args.n 0 s.requires.lent (lent_some (given s) s.args.n s.requires.lent).0
+vertex_at-v-requires c = let k = kerb_runs c.args.xs.now c.args.ys.now in vertex_lent k c.args.n 0 c.requires.lent (lent_some k c.args.n c.requires.lent).0
 
-pub lowest_below-requires : goal.lowest_below-requires
-lowest_below-requires c =
-    let s = c.before.before in
-    let v = subst OnMap (sym c.vertex_at-v.ensures) (on_map (given s) s.args.n 0 s.requires.sound (lent_some (given s) s.args.n s.requires.lent).0) in
-    record { points = s.requires.points; old = s.requires.old; new = s.requires.new; from = v; to = v }
+pub lowest_of-requires : goal.lowest_of-requires
+lowest_of-requires c =
+    let k = kerb_runs c.args.xs.now c.args.ys.now in
+    let r = c.requires in
+    let v = subst OnMap (sym c.vertex_at-v.ensures) (on_map k c.args.n 0 r.sound (lent_some k c.args.n r.lent).0) in
+    record { moves = r.moves; old = r.old; new = r.new; from = v; to = v }
 
 pub returns-then-n-eq1 : goal.returns-then-n-eq1
 returns-then-n-eq1 c =
-    let s = c.before.before.before in
-    let a = s.args in
-    let low = subst (λ (v : Vec2). Lowest a.count (move_touches a.olds a.news v v) c.lowest_below.result) c.vertex_at-v.ensures c.lowest_below.ensures in
-    of_point a.olds a.news (given s) a.n (omega (arith, c.if-n-eq1.true)) a.count c.lowest_below.result low
+    let a = c.args in
+    of_point a.olds.now a.news.now (kerb_runs a.xs.now a.ys.now) a.n c.if-n-eq1.true c.lowest_of.result
+    (subst (λ (v : Vec2). LowestOf (length a.olds.now) (move_touches a.olds.now a.news.now v v) c.lowest_of.result) c.vertex_at-v.ensures c.lowest_of.ensures)
 
 pub returns : goal.returns
 returns c =
-    let s = c.before.before in
-    let a = s.args in
-    let some = (lent_some (given s) a.n s.requires.lent).0 in
+    let a = c.args in
+    let k = kerb_runs a.xs.now a.ys.now in
+    let some = (lent_some k a.n c.requires.lent).0 in
     let line : 1 < a.n = omega (arith, some, c.if-n-eq1.false) in
-    subst (λ (ss : List Segment). Lowest a.count (move_touches_one a.olds a.news ss) c.lowest_along.result) (of_line (given s) a.n line) c.lowest_along.ensures
+    subst (λ (ss : List Segment). LowestOf (length a.olds.now) (move_touches_one a.olds.now a.news.now ss) c.lowest_along.result) (of_line k a.n line) c.lowest_along.ensures

@@ -1,7 +1,7 @@
--- `kerb_line::bounds::beyond` meets its contract.
+-- `kerb_line::bounds::Bounds::beyond` meets its contract.
 use borrow.Author.Rules.{rules}
 use Rattle.kerb_line.specs.Inner.{beyond}
-use Rattle.kerb_line.proofs.bounds.beyond.Goals as goal
+use Rattle.kerb_line.proofs.bounds.Bounds.beyond.Goals as goal
 
 pub returns : goal.returns
 unfolding beyond
