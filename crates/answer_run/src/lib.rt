@@ -9,6 +9,7 @@ ghost use Rattle.answer_run.specs.Answers.{at_byte, at_unit};
 ghost use Rattle.answer_run.specs.Inner.{Room, ByteFits, UnitFits};
 
 // Two entries of a run, from `at` on.
+// Kept: to copy an array made of the two into the run is longer.
 pub fn put_pair(run: &mut [i64], at: usize, x: i64, y: i64)
     requires { Room at 2 (length run.old) }
     ensures { run.new ≡ sets run.old at (x ∷ y ∷ []) }
@@ -18,17 +19,19 @@ pub fn put_pair(run: &mut [i64], at: usize, x: i64, y: i64)
 }
 
 // A refusal at a byte, in one number.
+// Kept: the refusal is a number, because it is told as one and a narrower type would ask more of callers; the casts, because u32 has no From of a usize.
 pub fn at_byte(number: u8, byte: usize) -> u32
     requires { ByteFits byte }
     ensures { result ≡ at_byte number byte }
 {
-    number as u32 + 256 * (byte as u32)
+    u32::from(number) + 256 * (byte as u32)
 }
 
 // A refusal at a unit in a step, in one number.
+// Kept: the number and the casts, for the same reasons.
 pub fn at_unit(number: u8, unit: usize, step: usize) -> u32
     requires { UnitFits unit step }
     ensures { result ≡ at_unit number unit step }
 {
-    number as u32 + 256 * (unit as u32) + 65536 * (step as u32)
+    u32::from(number) + 256 * (unit as u32) + 65536 * (step as u32)
 }

@@ -1,8 +1,7 @@
 -- Each kind of answer as it stands in an answer run, entry by entry: the orders that no law fixes.
 use Rattle.std.specs.Prelude.{◌≡◌, [], ◌∷◌, pos, negsuc}
 use Rattle.plane.specs.declared.Vec2.{Vec2}
-use Rattle.heading.specs.declared.PathTurn.TheVariants as P
-use Rattle.unit.specs.declared.UnitTurn.TheVariants as U
+use Rattle.refusal.specs.Numbers.{answered, refused as refused_by}
 use Rattle.reaches.specs.declared.Best.{Best}
 use Rattle.reaches.specs.declared.Best.TheVariants.{Nothing, Found}
 use Rattle.run.specs.declared.Finish.{Finish}
@@ -34,10 +33,10 @@ pub record WorkedEntries : Type 0 where
   pub stopped : sweep_told (S.Stopped 23 2 5) ≡ told 328215 []
   pub refused : sweep_told (S.Refused 8 20) ≡ told 5128 []
   -- the heading before the move, x before y
-  pub path_turn_lem : path_told (P.Turned (record { heading = north_east; shift = south_west })) ≡ told 0 (pos 300 ∷ pos 400 ∷ negsuc 4 ∷ negsuc 11 ∷ [])
-  pub no_path_turn : path_told (P.Refused 7) ≡ told 7 []
-  pub unit_turn_lem : unit_told (U.Turned south_west) ≡ told 0 (negsuc 4 ∷ negsuc 11 ∷ [])
-  pub no_unit_turn : unit_told (U.Refused 22) ≡ told 22 []
+  pub path_turn_lem : path_told (answered (record { heading = north_east; shift = south_west })) ≡ told 0 (pos 300 ∷ pos 400 ∷ negsuc 4 ∷ negsuc 11 ∷ [])
+  pub no_path_turn : path_told (refused_by 7) ≡ told 7 []
+  pub unit_turn_lem : unit_told (answered south_west) ≡ told 0 (negsuc 4 ∷ negsuc 11 ∷ [])
+  pub no_unit_turn : unit_told (refused_by 22) ≡ told 22 []
   -- how many are listed, wheelbase before width, zeros after
   pub two : settings_told (O.Listed (L.Two (record { wheelbase = 40000; width = pos 24000 }) (record { wheelbase = 50000; width = pos 24001 })))
       ≡ told 0 (pos 2 ∷ pos 40000 ∷ pos 24000 ∷ pos 50000 ∷ pos 24001 ∷ pos 0 ∷ pos 0 ∷ [])

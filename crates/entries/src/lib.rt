@@ -31,10 +31,10 @@ fn put_finish(run: &mut [i64], finish: Finish)
     requires { FinishFits finish (length run.old) }
     ensures { run.new ≡ sets run.old 0 (finish_entries finish) }
 {
+    // Kept: the casts, because i64 has no From of a usize.
     let steps = finish.steps as i64;
     let front = finish.front;
-    let widest = finish.widest;
-    match widest {
+    match finish.widest {
         Best::Nothing => put_eight(run, steps, 0, 0, 0, 0, 0, front.x, front.y),
         Best::Found(p) => {
             let station = p.station as i64;

@@ -23,7 +23,7 @@ fn put_setting(run: &mut [i64], at: usize, s: Setting)
     requires { Room at 2 (length run.old) }
     ensures { run.new ≡ sets run.old at (setting_entries s) }
 {
-    answer_run::put_pair(run, at, s.wheelbase as i64, s.width);
+    answer_run::put_pair(run, at, i64::from(s.wheelbase), s.width);
 }
 
 // The first seven entries of a run: how many are listed, and three settings.
@@ -55,7 +55,7 @@ fn tell_list(listed: Listed, answer: &mut [i64]) -> u32
             put_list(answer, 3, a, b, c);
             0
         }
-        Listed::Refused(number) => number as u32,
+        Listed::Refused(number) => u32::from(number),
     }
 }
 

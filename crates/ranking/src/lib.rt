@@ -6,7 +6,7 @@ ghost use Rattle.ranking.specs.Ranking.{is_before, entered};
 ghost use Rattle.ranking.specs.Best.{BestThree};
 
 // A setting: the last wheelbase, and the widest width of the walk with it.
-#[derive(Clone, Copy)]
+#[derive(Clone, Copy, PartialEq, Eq)]
 pub struct Setting {
     pub wheelbase: u32,
     pub width: i64,

@@ -31,7 +31,7 @@ pub struct Cell {
 }
 
 // The widest place: its station, width, left and right.
-#[derive(Clone, Copy)]
+#[derive(Clone, Copy, PartialEq, Eq)]
 pub struct Place {
     pub station: usize,
     pub width: i64,

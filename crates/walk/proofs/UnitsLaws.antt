@@ -17,8 +17,7 @@ use Rattle.plane.specs.Vector.{minus}
 use Rattle.job.specs.declared.Unit.{Unit as VehicleUnit}
 use Rattle.job.specs.declared.Vehicle.{Vehicle}
 use Rattle.job.specs.Empty.{empty_unit}
-use Rattle.unit.specs.declared.UnitTurn.{UnitTurn}
-use Rattle.unit.specs.declared.UnitTurn.TheVariants as U
+use Rattle.refusal.specs.Numbers.{answered, refused}
 use Rattle.unit.specs.Turn.{turned_by, too_far}
 use Rattle.walk.specs.Tests.{units_in_use}
 use Rattle.walk.specs.Units.{wheelbase_of, hitch_at, Ahead, none, behind, fold_kept, Turning, turned, stopped, onto, turn_units}
@@ -37,21 +36,21 @@ module _ (i : ℕ) (a : Ahead) (u : VehicleUnit) (us : List VehicleUnit) (d : Ve
   abbrev rest : Vec2 → Turning
   rest x = onto x (turn_units (i + 1) (behind u x) us ds (hitch_at u old d) (hitch_at u new x))
 
-  by_turned : (far fold : Bool) (x : Vec2) → pick far (U.Refused 22) (pick fold (U.Turned d') (U.Refused 23)) ≡ U.Turned x → pick far (stopped 22 i) (pick fold (rest d') (stopped 23 i)) ≡ rest x
+  by_turned : (far fold : Bool) (x : Vec2) → pick far (refused 22) (pick fold (answered d') (refused 23)) ≡ answered x → pick far (stopped 22 i) (pick fold (rest d') (stopped 23 i)) ≡ rest x
   by_turned true fold x e = absurd (let z : ◌≡◌ {A = ℕ} 0 1 = cc in omega arith)
   by_turned false true x e = let z : d' ≡ x = cc in ap rest z
   by_turned false false x e = absurd (let z : ◌≡◌ {A = ℕ} 0 1 = cc in omega arith)
 
-  by_refused : (far fold : Bool) (n : ℕ) → pick far (U.Refused 22) (pick fold (U.Turned d') (U.Refused 23)) ≡ U.Refused n → pick far (stopped 22 i) (pick fold (rest d') (stopped 23 i)) ≡ stopped n i
+  by_refused : (far fold : Bool) (n : ℕ) → pick far (refused 22) (pick fold (answered d') (refused 23)) ≡ refused n → pick far (stopped 22 i) (pick fold (rest d') (stopped 23 i)) ≡ stopped n i
   by_refused true fold n e = let z : 22 ≡ n = cc in ap (λ (m : ℕ). stopped m i) z
   by_refused false true n e = absurd (let z : ◌≡◌ {A = ℕ} 0 1 = cc in omega arith)
   by_refused false false n e = let z : 23 ≡ n = cc in ap (λ (m : ℕ). stopped m i) z
 
-  pub turned_next : (x : Vec2) → next_turn a u d old new ≡ U.Turned x → turn_units i a (u ∷ us) (d ∷ ds) old new ≡ rest x
+  pub turned_next : (x : Vec2) → next_turn a u d old new ≡ answered x → turn_units i a (u ∷ us) (d ∷ ds) old new ≡ rest x
   unfolding next_turn turn_units
   turned_next x e = by_turned (too_far f (wheelbase_of u)) (fold_kept a u d') x e
 
-  pub refused_next : (n : ℕ) → next_turn a u d old new ≡ U.Refused n → turn_units i a (u ∷ us) (d ∷ ds) old new ≡ stopped n i
+  pub refused_next : (n : ℕ) → next_turn a u d old new ≡ refused n → turn_units i a (u ∷ us) (d ∷ ds) old new ≡ stopped n i
   unfolding next_turn turn_units
   refused_next n e = by_refused (too_far f (wheelbase_of u)) (fold_kept a u d') n e
 
@@ -97,14 +96,14 @@ units_start v ds old new n m r = record {
     first (stopped n i) = refl
 
 -- a unit that turned can be drawn again
-pub turned_drawn : (a : Ahead) (u : VehicleUnit) (d old new x : Vec2) → UnitDrawn u d → next_turn a u d old new ≡ U.Turned x → UnitDrawn u x
+pub turned_drawn : (a : Ahead) (u : VehicleUnit) (d old new x : Vec2) → UnitDrawn u d → next_turn a u d old new ≡ answered x → UnitDrawn u x
 unfolding next_turn
 turned_drawn a u d old new x t e = by (too_far (minus new old) (wheelbase_of u)) (fold_kept a u (turned_by d (minus new old) (wheelbase_of u))) refl e
   where
     v : Vec2
     v = turned_by d (minus new old) (wheelbase_of u)
 
-    by : (far fold : Bool) → too_far (minus new old) (wheelbase_of u) ≡ far → pick far (U.Refused 22) (pick fold (U.Turned v) (U.Refused 23)) ≡ U.Turned x → UnitDrawn u x
+    by : (far fold : Bool) → too_far (minus new old) (wheelbase_of u) ≡ far → pick far (refused 22) (pick fold (answered v) (refused 23)) ≡ answered x → UnitDrawn u x
     by true fold p q = absurd (let z : ◌≡◌ {A = ℕ} 0 1 = cc in omega arith)
     by false true p q = let z : v ≡ x = cc in subst (UnitDrawn u) z (drawn_again t (minus new old) p)
     by false false p q = absurd (let z : ◌≡◌ {A = ℕ} 0 1 = cc in omega arith)
@@ -135,13 +134,13 @@ module _ {us : List VehicleUnit} {whole : Turning} {i : ℕ} {out : List Vec2} {
   pub turn_ready : TurnReady (ltb 0 i) lead u ahead e old new
   turn_ready = record { unit = l.drawn i h; lead = l.leading; from = place l.from; to = place l.to }
 
-  pub stopped_here : (n : ℕ) → next_turn a u e old new ≡ U.Refused n → stopped n (i + 1) ≡ whole
+  pub stopped_here : (n : ℕ) → next_turn a u e old new ≡ refused n → stopped n (i + 1) ≡ whole
   stopped_here n q = ap (prefixed (take i out)) (sym (here ∙ refused_next (i + 1) a u (drop (i + 1) us) e (drop (i + 1) out) old new n q)) ∙ l.same
 
   pub hitch_from : HitchReady u old e
   hitch_from = record { unit = l.drawn i h; place = place l.from }
 
-  module _ (x : Vec2) (q : next_turn a u e old new ≡ U.Turned x) where
+  module _ (x : Vec2) (q : next_turn a u e old new ≡ answered x) where
     pub again : UnitDrawn u x
     again = turned_drawn a u e old new x (l.drawn i h) q
 

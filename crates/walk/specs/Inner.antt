@@ -8,8 +8,7 @@ use Rattle.plane.specs.Length.{Near}
 use Rattle.job.specs.declared.Unit.{Unit as VehicleUnit}
 use Rattle.job.specs.declared.Vehicle.{Vehicle}
 use Rattle.job.specs.Empty.{empty_unit}
-use Rattle.unit.specs.declared.UnitTurn.{UnitTurn}
-use Rattle.unit.specs.declared.UnitTurn.TheVariants as U
+use Rattle.refusal.specs.Numbers.{Answer, answered, refused}
 use Rattle.unit.specs.Turn.{turned_by, too_far, Wheelbase}
 use Rattle.walk.specs.declared.Turns.TheVariants as T
 use Rattle.walk.specs.declared.UnitsTurned.{UnitsTurned}
@@ -17,11 +16,11 @@ use Rattle.walk.specs.Units.{wheelbase_of, Ahead, none, behind, fold_kept, Turni
 use Rattle.walk.specs.Rig.{zero_vector}
 
 -- one unit's turn in a step: 22, then 23, then the new vector
-unfoldable pub next_turn : Ahead → VehicleUnit → Vec2 → Vec2 → Vec2 → UnitTurn
+unfoldable pub next_turn : Ahead → VehicleUnit → Vec2 → Vec2 → Vec2 → Answer Vec2
 next_turn ahead u d old new =
     let f = minus new old in
     let d' = turned_by d f (wheelbase_of u) in
-    pick (too_far f (wheelbase_of u)) (U.Refused 22) (pick (fold_kept ahead u d') (U.Turned d') (U.Refused 23))
+    pick (too_far f (wheelbase_of u)) (refused 22) (pick (fold_kept ahead u d') (answered d') (refused 23))
 
 -- the unit ahead, if there is one
 abbrev pub ahead_if : Bool → VehicleUnit → Vec2 → Ahead

@@ -12,7 +12,7 @@ pub mod tests;
 pub mod units;
 
 // How far a rig has come: its vehicle, the station reached, and a vector for each unit from rear axle to front point.
-#[derive(Clone, Copy)]
+#[derive(Clone, Copy, PartialEq, Eq)]
 pub struct Walk {
     pub vehicle: Vehicle,
     pub station: usize,

@@ -80,7 +80,7 @@ pub fn path_sound(asked: usize, xs: &[i32], ys: &[i32], gxs: &[i32], gys: &[i32]
 pub fn vehicle_sound(v: Vehicle) -> bool
     ensures { result ≡ vehicle_sound v }
 {
-    job::vehicle_fault(v) == 0
+    job::vehicle_fault(v).is_ok()
 }
 
 fn is_zero(d: Vec2) -> bool

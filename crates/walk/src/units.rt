@@ -1,5 +1,6 @@
 // The units of a rig, drawn one after the other.
 ghost use Rattle.std.specs.Prelude.{◌≡◌};
+ghost use Rattle.refusal.specs.Numbers.{as_answer};
 ghost use Rattle.walk.specs.Tests.{units_in_use};
 ghost use Rattle.walk.specs.Units.{hitch_at, fold_kept, none, behind, turn_units};
 ghost use Rattle.walk.specs.Inner.{next_turn, ahead_if, units_turned, TurnReady, HitchReady, FoldReady, UnitsReady};
@@ -7,7 +8,7 @@ ghost use Rattle.walk.specs.Inner.{next_turn, ahead_if, units_turned, TurnReady,
 use crate::{Turns, UnitsTurned};
 use job::{Unit, Vehicle};
 use plane::Vec2;
-use unit::UnitTurn;
+use refusal::Fault;
 
 // The hitch of a unit whose front point lies at `front`.
 pub fn hitch_at(u: Unit, front: Vec2, d: Vec2) -> Vec2
@@ -40,23 +41,23 @@ fn turn_next(
     follows: bool,
     a: Unit,
     ahead: Vec2,
-) -> UnitTurn
+) -> Result<Vec2, Fault>
     requires { TurnReady follows a u ahead d old new }
-    ensures { result ≡ next_turn (ahead_if follows a ahead) u d old new }
+    ensures { as_answer result ≡ next_turn (ahead_if follows a ahead) u d old new }
 {
     let l = exact::wide(u.wheelbase);
     let f = plane::minus(new, old);
     if unit::moves_too_far(f, l) {
-        return UnitTurn::Refused(22);
+        return Err(Fault::MoveTooLong);
     }
     let t = unit::turned(d, f, l);
     if !follows {
-        return UnitTurn::Turned(t);
+        return Ok(t);
     }
     if fold_kept(a, ahead, u, t) {
-        return UnitTurn::Turned(t);
+        return Ok(t);
     }
-    UnitTurn::Refused(23)
+    Err(Fault::FoldLimit)
 }
 
 // The units in use, turned from the first, whose front point goes from old to new; a refusal hands the old vectors back.
@@ -77,13 +78,13 @@ pub(crate) fn turn_units(v: Vehicle, d: [Vec2; 4], old: Vec2, new: Vec2) -> Unit
         let e = out[i];
         let t = turn_next(u, e, from, to, 0 < i, lead, ahead);
         match t {
-            UnitTurn::Refused(n) => {
+            Err(fault) => {
                 return UnitsTurned {
-                    turns: Turns::Stopped(n, i + 1),
+                    turns: Turns::Stopped(fault.number(), i + 1),
                     d,
                 };
             }
-            UnitTurn::Turned(x) => {
+            Ok(x) => {
                 from = hitch_at(u, from, e);
                 to = hitch_at(u, to, x);
                 out[i] = x;

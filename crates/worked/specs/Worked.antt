@@ -4,13 +4,11 @@ use Rattle.exact.specs.Nearest.{nearest_z}
 use Rattle.plane.specs.declared.Vec2.{Vec2}
 use Rattle.plane.specs.Settle.{settle_z}
 use Rattle.number.specs.Read.{Read, got, refused}
+use Rattle.refusal.specs.Numbers.{Answer, answered}
 use Rattle.number.specs.Number.{read_number}
 use Rattle.number.specs.Field.{signed_number}
-use Rattle.heading.specs.declared.PathTurn.{PathTurn}
-use Rattle.heading.specs.declared.PathTurn.TheVariants as P
+use Rattle.heading.specs.declared.Advance.{Advance}
 use Rattle.heading.specs.PathTurn.{path_turn}
-use Rattle.unit.specs.declared.UnitTurn.{UnitTurn}
-use Rattle.unit.specs.declared.UnitTurn.TheVariants as U
 use Rattle.unit.specs.Turn.{unit_turn}
 use Rattle.walk.specs.Drawn.{Outcome, made, refused_at}
 use Rattle.worked.specs.Rows.{AllHold, neg, vec}
@@ -21,8 +19,8 @@ pub data Row : Type 0 where
   rounded : (n d answer : ℤ) → Row
   number_read : (bytes : List ℕ) (answer : Read ℕ) → Row
   signed_read : (bytes : List ℕ) (answer : Read ℤ) → Row
-  path_turned : (g : Vec2) (s : ℕ) (r : ℤ) (answer : PathTurn) → Row
-  unit_turned : (d : Vec2) (l : ℕ) (f : Vec2) (answer : UnitTurn) → Row
+  path_turned : (g : Vec2) (s : ℕ) (r : ℤ) (answer : Answer Advance) → Row
+  unit_turned : (d : Vec2) (l : ℕ) (f : Vec2) (answer : Answer Vec2) → Row
   settled : (v : Vec2) (k : ℤ) (answer : Vec2) → Row
   folded : (ahead d : Vec2) (limit : ℤ) (answer : Outcome) (other : Vec2) (other_answer : Outcome) → Row
 
@@ -37,8 +35,8 @@ Holds (settled v k answer) = settle_z v k ≡ answer
 Holds (folded ahead d limit answer other other_answer) = FoldAnswer ahead d limit answer × FoldAnswer ahead other limit other_answer
 
 -- the heading and the move that a path turn answers
-abbrev pub turned_to : Vec2 → Vec2 → PathTurn
-turned_to g move = P.Turned (record { heading = g; shift = move })
+abbrev pub turned_to : Vec2 → Vec2 → Answer Advance
+turned_to g move = answered (record { heading = g; shift = move })
 
 abbrev pub worked_rows : List Row
 worked_rows =
@@ -53,8 +51,8 @@ worked_rows =
     ∷ path_turned (vec (pos 0) (pos 1000000)) 20000 (pos 20000) (turned_to (vec (pos 800000) (pos 600000)) (vec (pos 8000) (pos 16000)))
     ∷ path_turned (vec (pos 0) (pos 1000000)) 20000 (neg 20000) (turned_to (vec (neg 800000) (pos 600000)) (vec (neg 8000) (pos 16000)))
     -- "d (0, 50000), L 50,000, f (30000, −10000) → (30000, 40000); f (0, 5000) → (0, 50000)"
-    ∷ unit_turned (vec (pos 0) (pos 50000)) 50000 (vec (pos 30000) (neg 10000)) (U.Turned (vec (pos 30000) (pos 40000)))
-    ∷ unit_turned (vec (pos 0) (pos 50000)) 50000 (vec (pos 0) (pos 5000)) (U.Turned (vec (pos 0) (pos 50000)))
+    ∷ unit_turned (vec (pos 0) (pos 50000)) 50000 (vec (pos 30000) (neg 10000)) (answered (vec (pos 30000) (pos 40000)))
+    ∷ unit_turned (vec (pos 0) (pos 50000)) 50000 (vec (pos 0) (pos 5000)) (answered (vec (pos 0) (pos 50000)))
     -- "(0, 50001) settled to 50,000 is (0, 50000)"
     ∷ settled (vec (pos 0) (pos 50001)) (pos 50000) (vec (pos 0) (pos 50000))
     -- "vectors (0, 50000) and (50000, 0), limit 0: allowed; in the same row, (50000, −1): 23": made, and 23 with unit 2

@@ -10,14 +10,14 @@ use lib.Seq.{get_or-take, get_or-set_same}
 use Rattle.plane.specs.declared.Vec2.{Vec2}
 use Rattle.job.specs.declared.Unit.{Unit as VehicleUnit}
 use Rattle.job.specs.Empty.{empty_unit}
-use Rattle.unit.specs.declared.UnitTurn.TheVariants as U
+use Rattle.refusal.specs.Numbers.{as_answer, answered, refused}
 use Rattle.job.proofs.Arrays.{unmapped}
 use Rattle.walk.specs.Units.{hitch_at, none, turned, turn_units}
 use Rattle.walk.specs.Rig.{zero_vector}
 use Rattle.walk.specs.Inner.{next_turn, ahead_if, units_turned, TurnReady, HitchReady}
 use Rattle.walk.proofs.UnitsLaws.{UnitsLeft, units_start, turn_ready, stopped_here, hitch_from, hitch_to, units_next, units_done}
 use Rattle.walk.proofs.units.turn_units.Goals as goal
-use Rattle.walk.proofs.units.turn_units.Goals.{After-turn_next-t, In-Turned, In-loop-i, Start}
+use Rattle.walk.proofs.units.turn_units.Goals.{After-turn_next-t, In-Ok, In-loop-i, Start}
 
 -- at the entry
 module _ (s : Start) where
@@ -74,24 +74,24 @@ turn_next-t-requires c =
     subst (λ (u : VehicleUnit). TurnReady (ltb 0 l.i) l.lead u l.ahead (get_or l.out l.i zero_vector) l.from l.to) (read b) (turn_ready l.invariant.2 (here b) (short b))
 
 -- what the unit's turn answered
-answered : (c : After-turn_next-t) → let b = c.before.before.before in let l = b.loop-i in
-    next_turn (ahead_if (ltb 0 l.i) l.lead l.ahead) (get_or (us (at b)) l.i empty_unit) (get_or l.out l.i zero_vector) l.from l.to ≡ c.turn_next-t.result
-answered c =
+told : (c : After-turn_next-t) → let b = c.before.before.before in let l = b.loop-i in
+    next_turn (ahead_if (ltb 0 l.i) l.lead l.ahead) (get_or (us (at b)) l.i empty_unit) (get_or l.out l.i zero_vector) l.from l.to ≡ as_answer c.turn_next-t.result
+told c =
     let b = c.before.before.before in
     let l = b.loop-i in
     ap (λ (u : VehicleUnit). next_turn (ahead_if (ltb 0 l.i) l.lead l.ahead) u (get_or l.out l.i zero_vector) l.from l.to) (read b) ∙ sym c.turn_next-t.ensures
 
 pub overflow_add-result : goal.overflow_add-result
-overflow_add-result c = let b = c.before.before.before.before in record { fits = omega (arith, here b, short b) }
+overflow_add-result c = let b = c.before.before.before.before.before in record { fits = omega (arith, here b, short b) }
 
-pub returns-in-Refused : goal.returns-in-Refused
-returns-in-Refused c =
-    let k = c.before in
+pub returns-in-Err : goal.returns-in-Err
+returns-in-Err c =
+    let k = c.before.before in
     let b = k.before.before.before in
-    ap (units_turned (at b).args.d) (stopped_here b.loop-i.invariant.2 (here b) (short b) c.in-Refused.n (answered k ∙ c.in-Refused.is))
+    ap (units_turned (at b).args.d) (stopped_here b.loop-i.invariant.2 (here b) (short b) c.number.result (told k ∙ ap as_answer c.in-Err.is ∙ ap refused (sym c.number.ensures)))
 
 -- the unit turned
-module _ (c : In-Turned) where
+module _ (c : In-Ok) where
   abbrev k : After-turn_next-t
   k = c.before
 
@@ -99,10 +99,10 @@ module _ (c : In-Turned) where
   b = k.before.before.before
 
   abbrev x : Vec2
-  x = c.in-Turned.x
+  x = c.in-Ok.x
 
-  turned_to_lem : let l = b.loop-i in next_turn (ahead_if (ltb 0 l.i) l.lead l.ahead) (get_or (us (at b)) l.i empty_unit) (get_or l.out l.i zero_vector) l.from l.to ≡ U.Turned x
-  turned_to_lem = answered k ∙ c.in-Turned.is
+  turned_to_lem : let l = b.loop-i in next_turn (ahead_if (ltb 0 l.i) l.lead l.ahead) (get_or (us (at b)) l.i empty_unit) (get_or l.out l.i zero_vector) l.from l.to ≡ answered x
+  turned_to_lem = told k ∙ ap as_answer c.in-Ok.is
 
 pub hitch_at-from-requires : goal.hitch_at-from-requires
 hitch_at-from-requires c =
@@ -115,11 +115,11 @@ hitch_at-to-requires c =
     let l = (b m).loop-i in
     subst (λ (u : VehicleUnit). HitchReady u l.to (x m)) (read (b m)) (hitch_to l.invariant.2 (here (b m)) (short (b m)) (x m) (turned_to_lem m))
 
-pub offset_bounds-out-i-in-Turned : goal.offset_bounds-out-i-in-Turned
-offset_bounds-out-i-in-Turned c = let m = c.before.before in record { fits = omega (arith, here (b m), short (b m)) }
+pub offset_bounds-out-i-in-Ok : goal.offset_bounds-out-i-in-Ok
+offset_bounds-out-i-in-Ok c = let m = c.before.before in record { fits = omega (arith, here (b m), short (b m)) }
 
-pub bounds-out-i-in-Turned : goal.bounds-out-i-in-Turned
-bounds-out-i-in-Turned c = let m = c.before.before in omega (arith, here (b m), short (b m))
+pub bounds-out-i-in-Ok : goal.bounds-out-i-in-Ok
+bounds-out-i-in-Ok c = let m = c.before.before in omega (arith, here (b m), short (b m))
 
 pub overflow_add-i : goal.overflow_add-i
 overflow_add-i c = let m = c.before.before in record { fits = omega (arith, here (b m), short (b m)) }
