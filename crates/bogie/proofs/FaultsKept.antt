@@ -1,6 +1,6 @@
 -- A job that is not refused is not refused with another last wheelbase that is allowed either.
 use Prim.Native.Nat.{ℕ, zero, suc, ◌+◌, ◌-◌, ◌≤◌}
-use mathlib.Core.Path.{◌≡◌, refl}
+use mathlib.Core.Path.{◌≡◌}
 use mathlib.Core.List.{List, [], ◌∷◌}
 use mathlib.Core.Bool.{Bool, true, ◌&&◌}
 use native.Mathlib.Omega.{arith}

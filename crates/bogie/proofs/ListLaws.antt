@@ -11,7 +11,9 @@ use Rattle.number.proofs.FieldCodec.{both}
 use Rattle.job.specs.declared.Job.{Job}
 use Rattle.job.specs.Faults.{or_fault, first_of, judge}
 use Rattle.job.proofs.FaultLaws.{first_of_lem, first_none, or_none}
-use Rattle.path.specs.declared.Laid.TheVariants as L
+use Rattle.std.specs.Prelude.{Ok, Err}
+use Rattle.refusal.specs.Numbers.{answered, refused, number_of}
+use Rattle.refusal.specs.declared.Fault.{Fault}
 use Rattle.path.specs.Stations.{stations}
 use Rattle.path.specs.Laying.{PathRuns, room_for, lay_answer, LayEnsures}
 use Rattle.path.proofs.JobLaws.{stations_answered}
@@ -82,16 +84,16 @@ refused_list j b p r (suc n) e h = record { answered = rw (sym e) refl; path = r
 
 -- a job that passed is laid
 module _ (j : Job) (b : Rail) (p : PathRuns) (r : Reaches) (none : list_refusal j b p r ≡ 0) where
-  laid_by : (x y : Bool) (m k : ℕ) → x ≡ true → y ≡ true → L.Refused m ≡ pick x (pick y (L.Stations k) (L.Refused 21)) (L.Refused (judge j)) → ⊥
+  laid_by : (x y : Bool) (m k : ℕ) → x ≡ true → y ≡ true → refused m ≡ pick x (pick y (answered k) (refused 21)) (refused (judge j)) → ⊥
   laid_by true true m k s t e = let z : ◌≡◌ {A = ℕ} 0 1 = cc in omega arith
   laid_by true false m k s t e = let z : ◌≡◌ {A = ℕ} 0 1 = cc in omega arith
   laid_by false y m k s t e = let z : ◌≡◌ {A = ℕ} 0 1 = cc in omega arith
 
-  pub not_refused : (m : ℕ) (q : PathRuns) → LayEnsures j p (L.Refused m) q → ⊥
+  pub not_refused : (f : Fault) (q : PathRuns) → LayEnsures j p (Err f) q → ⊥
   unfolding lay_answer
-  not_refused m q t = let k = all_tests j b p r none in laid_by (eqb (judge j) 0) (room_for (length (stations j)) p) m (length (stations j)) (eq-eqb (judge j) 0 k.fault) k.room t.answered
+  not_refused f q t = let k = all_tests j b p r none in laid_by (eqb (judge j) 0) (room_for (length (stations j)) p) (number_of f) (length (stations j)) (eq-eqb (judge j) 0 k.fault) k.room t.answered
 
-  module _ (m : ℕ) (q : PathRuns) (t : LayEnsures j p (L.Stations m) q) where
+  module _ (m : ℕ) (q : PathRuns) (t : LayEnsures j p (Ok m) q) where
     pub laid_walkable : Walkable j.vehicle b (call_of m q r)
     laid_walkable =
         let k = all_tests j b p r none in

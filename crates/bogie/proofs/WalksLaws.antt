@@ -11,7 +11,7 @@ use Rattle.job.specs.Faults.{vehicle_fault}
 use Rattle.job.proofs.FaultLaws.{sound_vehicle}
 use Rattle.path.specs.Laying.{PathRuns}
 use Rattle.walk.specs.Drawn.{station_at}
-use Rattle.walk.specs.Tests.{lent, vehicle_sound}
+use Rattle.walk.specs.Tests.{vehicle_sound}
 use Rattle.walk.specs.Rig.{drawn_start}
 use Rattle.reaches.specs.Cells.{Reaches, cleared_cell, cleared}
 use Rattle.reaches.proofs.CellLaws.{SameLengths, stations_lengths}

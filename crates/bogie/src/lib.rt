@@ -13,7 +13,7 @@ ghost use Rattle.bogie.specs.Worked.{WorkedLists};
 ghost use Rattle.bogie.specs.Walks.{LastUnit, Walkable, WalkEnsures};
 
 use job::{Job, Unit, Vehicle};
-use path::Laid;
+use path::PathRoom;
 use ranking::{Listed, Setting};
 use reaches::Best;
 use run::Ran;
@@ -132,12 +132,10 @@ fn refusal_of(
         (path_runs xs.now ys.now gxs.now gys.now)
         (reach_runs left.now right.now marks.now) }
 {
-    let fault = job::judge(j);
-    if fault != 0 {
-        return fault;
+    if let Err(fault) = job::judge(j) {
+        return fault.number();
     }
-    let elements = j.elements;
-    let n = path::step_count(elements, j.count, j.step) + 1;
+    let n = path::step_count(&j.elements[..j.count], j.step) + 1;
     if !walk::tests::path_lent(n, xs, ys, gxs, gys) {
         return 21;
     }
@@ -178,15 +176,16 @@ pub fn list_settings(
     if refusal != 0 {
         return Listed::Refused(refusal);
     }
-    let v = j.vehicle;
-    let laid = path::lay(j, xs, ys, gxs, gys);
-    match laid {
-        Laid::Stations(asked) => {
+    let mut room = PathRoom { xs, ys, gxs, gys };
+    match path::lay(j, &mut room) {
+        Ok(asked) => {
+            let path = room.laid();
             walk_settings(
-                v, lowest, pitch, number, asked, xs, ys, gxs, gys, left, right, marks,
+                j.vehicle, lowest, pitch, number, asked, path.xs, path.ys, path.gxs, path.gys,
+                left, right, marks,
             )
         }
-        Laid::Refused(n) => Listed::Refused(n),
+        Err(fault) => Listed::Refused(fault.number()),
     }
 }
 

@@ -1,19 +1,19 @@
 -- From what `read_job` and `list_settings` ensure to what a job and a rail come to, on a caller's runs and on runs of zeros, which have room for every path.
 use Prim.Native.Nat.{ℕ}
-use mathlib.Core.Path.{◌≡◌, refl, ◌∙◌, ap, subst⁻¹}
+use mathlib.Core.Path.{◌≡◌, refl, sym, ◌∙◌, ap, subst⁻¹}
 use mathlib.Core.Bool.{Bool, true, false, ◌&&◌}
 use mathlib.Core.List.{List, [], ◌∷◌}
 use mathlib.Core.Logic.{inl, inr}
 use borrow.Author.Tests.{eq-eqb}
 use lib.ListN.{length}
+use Rattle.std.specs.Prelude.{Ok, Err}
+use Rattle.refusal.specs.Numbers.{number_of}
+use Rattle.refusal.specs.declared.Refusal.{Refusal}
 use Rattle.number.specs.Read.{Bytes, Read, got, refused, pick}
 use Rattle.job.specs.declared.Job.{Job}
 use Rattle.job.specs.Faults.{or_fault, first_of, judge}
 use Rattle.job_reader.specs.Record.{read_job}
 use Rattle.job_reader.specs.Answers.{ReadEnsures}
-use Rattle.job_reader.specs.declared.ReadAnswer.TheVariants as A
-use Rattle.job_reader.specs.declared.JobRead.{JobRead}
-use Rattle.job_writer.proofs.ClaimLaws.{accepted}
 use Rattle.job_writer.proofs.RoundTrip.{read_written}
 use Rattle.path.specs.Stations.{stations}
 use Rattle.path.specs.Laying.{PathRuns, room_for}
@@ -28,7 +28,7 @@ use Rattle.ranking.specs.Ranking.{listed_of}
 use Rattle.bogie.specs.List.{list_refusal, ranked_settings, list_answer, ListEnsures}
 use Rattle.swept.specs.Swept.{empty_path, empty_reaches}
 use Rattle.swept.proofs.RangeLaws.{refused_so}
-use Rattle.swept.proofs.SweptLaws.{run_passes, refused_by}
+use Rattle.swept.proofs.SweptLaws.{run_passes}
 use Rattle.offered.specs.declared.Offered.{Offered}
 use Rattle.offered.specs.declared.Offered.TheVariants as O
 use Rattle.offered.specs.Offered.{list_of, offered_read, offered_of, offered_into}
@@ -78,20 +78,19 @@ list_so j b p r l sound =
 
 -- ---- what `read_job` and `list_settings` ensure, put together
 
-module _ (s : List ℕ) (read : JobRead) (k : ReadEnsures s read) (b : Rail) (p : PathRuns) (r : Reaches) where
-  pub refused_offers : (n i : ℕ) → read.answer ≡ A.Refused n i → ListIntoEnsures s b p r (O.Refused n i) p r
-  refused_offers n i a =
-      let e = refused_by (read_job s) read n i k.answer a in
-      record { answer = rw e refl; path = rw e refl; reaches = rw e refl; ranges = refused_so s n i e }
+module _ (s : List ℕ) (b : Rail) (p : PathRuns) (r : Reaches) where
+  pub refused_offers : (e : Refusal) → ReadEnsures s (Err e) → (n : ℕ) → n ≡ number_of e.fault → ListIntoEnsures s b p r (O.Refused n e.place) p r
+  refused_offers e k n h =
+      let q : read_job s ≡ refused n e.place = sym k.answer ∙ ap (λ (m : ℕ). refused m e.place) (sym h) in
+      record { answer = rw q refl; path = rw q refl; reaches = rw q refl; ranges = refused_so s n e.place q }
 
-  pub accepted_offers : read.answer ≡ A.Accepted → (l : Listed) (p' : PathRuns) (r' : Reaches) → ListEnsures read.job b p r l p' r' → ListIntoEnsures s b p r (O.Listed l) p' r'
-  accepted_offers a l p' r' t =
-      let h = accepted (read_job s) read k.answer a in
-      let e = h.1 in
-      let sound = (read_written s read.job h.0 k.bytes e).judged in
+  pub accepted_offers : (j : Job) → ReadEnsures s (Ok j) → (l : Listed) (p' : PathRuns) (r' : Reaches) → ListEnsures j b p r l p' r' → ListIntoEnsures s b p r (O.Listed l) p' r'
+  accepted_offers j k l p' r' t =
+      let e : read_job s ≡ got j (length s) = sym k.answer in
+      let sound = (read_written s j (length s) k.bytes e).judged in
       record {
         answer = rw e (ap O.Listed t.answered);
         path = rw e t.path;
         reaches = rw e t.reaches;
-        ranges = subst⁻¹ ListedSo t.answered (list_so read.job b p r (ranked_settings read.job b p r) sound);
+        ranges = subst⁻¹ ListedSo t.answered (list_so j b p r (ranked_settings j b p r) sound);
       }

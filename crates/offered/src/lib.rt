@@ -8,7 +8,6 @@ ghost use Rattle.offered.specs.Offered.{offered_of};
 ghost use Rattle.offered.specs.Ranges.{ListIntoEnsures};
 ghost use Rattle.offered.specs.Claims.{FirstBytes, RecordFirst};
 
-use job_reader::ReadAnswer;
 use ranking::Listed;
 
 // What the list of the job comes to; or the record's refusal, with the byte where the field starts.
@@ -39,16 +38,11 @@ pub fn list_into(
         (path_runs xs.new ys.new gxs.new gys.new)
         (reach_runs left.new right.new marks.new) }
 {
-    let read = job_reader::read_job(bytes);
-    let answer = read.answer;
-    match answer {
-        ReadAnswer::Accepted => {
-            let listed = bogie::list_settings(
-                read.job, lowest, pitch, number, xs, ys, gxs, gys, left, right, marks,
-            );
-            Offered::Listed(listed)
-        }
-        ReadAnswer::Refused(n, place) => Offered::Refused(n, place),
+    match job_reader::read_job(bytes) {
+        Ok(job) => Offered::Listed(bogie::list_settings(
+            job, lowest, pitch, number, xs, ys, gxs, gys, left, right, marks,
+        )),
+        Err(refusal) => Offered::Refused(refusal.fault.number(), refusal.place),
     }
 }
 

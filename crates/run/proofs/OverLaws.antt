@@ -1,15 +1,14 @@
 -- A vehicle on a laid path, from its placement to what its walk came to.
-use Prim.Native.Nat.{ℕ, ◌+◌, ◌-◌, ◌≤◌, ◌<◌}
-use mathlib.Core.Path.{◌≡◌, refl, sym, ◌∙◌, ap, subst}
+use Prim.Native.Nat.{ℕ, ◌≤◌}
+use mathlib.Core.Path.{◌≡◌, sym, ◌∙◌, ap, subst}
 use mathlib.Core.Bool.{true}
-use native.Mathlib.Omega.{arith}
 use lib.IntN.{pos, ◌*ℤ◌}
 use Rattle.plane.specs.Length.{heading_length, Near}
 use Rattle.job.specs.declared.Vehicle.{Vehicle}
 use Rattle.path.specs.Laying.{PathRuns}
 use Rattle.walk.specs.declared.Walk.{Walk}
 use Rattle.walk.specs.declared.Advanced.{Advanced}
-use Rattle.walk.specs.Drawn.{Drawn, view, Call, station_at}
+use Rattle.walk.specs.Drawn.{Drawn, view, station_at}
 use Rattle.walk.specs.Tests.{lent, record_sound}
 use Rattle.walk.specs.Rig.{drawn_start}
 use Rattle.walk.proofs.PathTests.{path_station}
@@ -17,7 +16,7 @@ use Rattle.walk.proofs.RecordTests.{lent_call, sound_record}
 use Rattle.walk.proofs.VehicleTests.{units_counted}
 use Rattle.walk.proofs.SoundKept.{start_sound}
 use Rattle.reaches.specs.Cells.{Reaches, cleared_cell, cleared}
-use Rattle.reaches.proofs.CellLaws.{SameLengths, stations_lengths, lengths_of_lem}
+use Rattle.reaches.proofs.CellLaws.{SameLengths, lengths_of_lem}
 use Rattle.stations.specs.Placing.{call_of}
 use Rattle.run.specs.declared.Ran.{Ran}
 use Rattle.run.specs.Walking.{Course, walk_to_end, steps_left, course_of, Going}

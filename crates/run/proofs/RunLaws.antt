@@ -1,10 +1,12 @@
 -- The answers of a whole job: a fault, a run too short, and a walk over the path that was laid.
-use Prim.Native.Nat.{ℕ, zero, suc, ◌+◌, ◌≤◌, ◌<◌}
+use Prim.Native.Nat.{ℕ, zero, suc, ◌+◌, ◌<◌}
 use mathlib.Core.Path.{◌≡◌, refl, sym, ◌∙◌, ap, subst, subst₂}
+use mathlib.Core.List.{List}
 use mathlib.Core.Bool.{Bool, true, false, ◌&&◌}
 use native.Mathlib.Omega.{arith}
 use borrow.Author.Tests.{eq-eqb, ne_eqb, eqb-true, le-leb}
-use lib.Dec.{leb, eqb}
+use lib.Dec.{eqb}
+use lib.IntN.{ℤ}
 use lib.ListN.{length, take}
 use Rattle.number.specs.Read.{pick}
 use Rattle.number.proofs.FieldCodec.{and}
@@ -12,17 +14,18 @@ use Rattle.job.specs.declared.Job.{Job}
 use Rattle.job.specs.Faults.{judge, vehicle_fault}
 use Rattle.job.proofs.FaultLaws.{sound}
 use Rattle.path.specs.declared.Station.{Station}
-use Rattle.path.specs.declared.Laid.{Laid}
-use Rattle.path.specs.declared.Laid.TheVariants as L
-use Rattle.path.specs.Stations.{stations}
-use Rattle.path.specs.Laying.{PathRuns, room_for, written, lay_answer, laid_runs, LayEnsures}
+use Rattle.std.specs.Prelude.{Ok, Err}
+use Rattle.refusal.specs.Numbers.{Answer, answered, refused as refused_by_number, number_of}
+use Rattle.refusal.specs.declared.Fault.{Fault}
+use Rattle.path.specs.Stations.{step_total, stations}
+use Rattle.path.specs.Laying.{PathRuns, path_runs, room_for, written, lay_answer, laid_runs, LayEnsures}
 use Rattle.path.specs.LaidPath.{job_station}
 use Rattle.path.proofs.JobLaws.{stations_answered, stations_count}
 use Rattle.path.proofs.LayLaws.{room_for_fewer}
 use Rattle.path.proofs.EntryLaws.{written_lengths, path_in_runs}
 use Rattle.path.proofs.SoundLaws.{sound_path}
-use Rattle.walk.specs.Drawn.{Call, station_at}
-use Rattle.walk.specs.Tests.{lent, reaches_lent, station_sound, path_sound, vehicle_sound}
+use Rattle.walk.specs.Drawn.{station_at}
+use Rattle.walk.specs.Tests.{lent, reaches_lent, station_sound, vehicle_sound}
 use Rattle.walk.proofs.PathTests.{passes, all_sound}
 use Rattle.reaches.specs.Cells.{Reaches, lengths_of}
 use Rattle.stations.specs.Placing.{call_of, unless_refused}
@@ -30,6 +33,14 @@ use Rattle.run.specs.declared.Ran.{Ran}
 use Rattle.run.specs.declared.Ran.TheVariants as R
 use Rattle.run.specs.Walking.{Course}
 use Rattle.run.specs.Run.{ran_over, walk_over, run_refusal, ran_answer, job_path, job_course, RunEnsures, Runnable, OverEnsures}
+
+-- the stations that runs are tested for before a path is laid are the job's
+pub counted : (j : Job) (n : ℕ) → n ≡ step_total j.step 0 (take j.count j.elements) → n + 1 ≡ length (stations j)
+counted j n e = ap (λ (m : ℕ). m + 1) e ∙ sym (stations_count j)
+
+-- the caller's runs hold what the room held
+pub in_runs : (P : PathRuns → Type 0) {xs ys gxs gys xs' ys' gxs' gys' : List ℤ} → P (path_runs xs ys gxs gys) → xs ≡ xs' → ys ≡ ys' → gxs ≡ gxs' → gys ≡ gys' → P (path_runs xs' ys' gxs' gys')
+in_runs P h a b c d = rw (sym a, sym b, sym c, sym d) h
 
 -- refused: nothing is written
 refused_by : (j : Job) (p : PathRuns) (r : Reaches) (n : ℕ) → run_refusal j p r ≡ suc n → RunEnsures j p r (R.Refused (suc n)) p r
@@ -66,16 +77,16 @@ module _ (j : Job) (p : PathRuns) (r : Reaches) where
     reaches_short e = refused_21 (λ a b. true_false b e)
 
     -- laying refuses a job without a fault by 21 alone
-    laid_by : (a b : Bool) (m k : ℕ) → a ≡ true → L.Refused m ≡ pick a (pick b (L.Stations k) (L.Refused 21)) (L.Refused (judge j)) → (m ≡ 21) × (b ≡ false)
+    laid_by : (a b : Bool) (m k : ℕ) → a ≡ true → refused_by_number m ≡ pick a (pick b (answered k) (refused_by_number 21)) (refused_by_number (judge j)) → (m ≡ 21) × (b ≡ false)
     laid_by true true m k t e = absurd (let z : ◌≡◌ {A = ℕ} 0 1 = cc in omega arith)
     laid_by true false m k t e = (cc, refl)
     laid_by false b m k t e = absurd (let z : ◌≡◌ {A = ℕ} 0 1 = cc in omega arith)
 
-    pub path_short : (m : ℕ) (q : PathRuns) → LayEnsures j p (L.Refused m) q → RunEnsures j p r (R.Refused m) q r
+    pub path_short : (fault : Fault) (q : PathRuns) → LayEnsures j p (Err fault) q → RunEnsures j p r (R.Refused (number_of fault)) q r
     unfolding lay_answer
-    path_short m q t =
-        let s = laid_by (eqb (judge j) 0) (room_for n p) m n (eq-eqb (judge j) 0 f) t.answered in
-        let kept : q ≡ p = t.runs ∙ ap (λ (a : Laid). laid_runs a j p) (sym t.answered) in
+    path_short fault q t =
+        let s = laid_by (eqb (judge j) 0) (room_for n p) (number_of fault) n (eq-eqb (judge j) 0 f) t.answered in
+        let kept : q ≡ p = t.runs ∙ ap (λ (a : Answer ℕ). laid_runs a j p) (sym t.answered) in
         subst₂ (λ (k : ℕ) (x : PathRuns). RunEnsures j p r (R.Refused k) x r) (sym s.0) (sym kept) (refused_21 (λ a b. true_false a s.1))
 
 pub all_passed : (j : Job) (p : PathRuns) (r : Reaches) → judge j ≡ 0 → room_for (length (stations j)) p ≡ true → reaches_lent (length (stations j)) (lengths_of r) ≡ true → run_refusal j p r ≡ 0
@@ -94,7 +105,7 @@ unfolding run_refusal
 tests_passed j p r e = let n = length (stations j) in passed_by (eqb (judge j) 0) (room_for n p) (reaches_lent n (lengths_of r)) (judge j) refl e
 
 -- the path that was laid is sound, and the vehicle was tested with its job
-module _ (j : Job) (p : PathRuns) (m : ℕ) (q : PathRuns) (t : LayEnsures j p (L.Stations m) q) where
+module _ (j : Job) (p : PathRuns) (m : ℕ) (q : PathRuns) (t : LayEnsures j p (Ok m) q) where
   pub laid_station : (i : ℕ) → i < m → station_sound (station_at q i) ≡ true
   laid_station i h =
       let k = path_in_runs j p m q t in

@@ -1,20 +1,18 @@
 -- The walk to the end of a path, a step at a time: a made step leaves a walk that can go on, a refused one ends it.
-use Prim.Native.Nat.{ℕ, zero, suc, ◌+◌, ◌-◌, ◌≤◌, ◌<◌}
+use Prim.Native.Nat.{ℕ, suc, ◌+◌, ◌-◌, ◌≤◌, ◌<◌}
 use mathlib.Core.Path.{◌≡◌, refl, sym, ◌∙◌, ap, subst}
 use mathlib.Core.Bool.{true, false}
 use native.Mathlib.Omega.{arith}
 use borrow.Author.Tests.{lt-leb}
-use lib.Dec.{leb}
-use lib.ListN.{length}
 use Rattle.path.specs.Laying.{PathRuns}
 use Rattle.walk.specs.declared.Walk.{Walk}
 use Rattle.walk.specs.declared.Advanced.{Advanced}
-use Rattle.walk.specs.Drawn.{Drawn, Lengths, view, Call, Outcome, made, refused, refused_at, outcome_of}
-use Rattle.walk.specs.Tests.{path_sound, record_sound, at_last}
+use Rattle.walk.specs.Drawn.{Drawn, view, Call, Outcome, made, refused, refused_at, outcome_of}
+use Rattle.walk.specs.Tests.{record_sound}
 use Rattle.walk.specs.Units.{Turning, turned, stopped}
 use Rattle.walk.specs.Rig.{Stepped, turning_of, after_turning, draw_step}
 use Rattle.walk.proofs.SoundKept.{record_kept}
-use Rattle.reaches.specs.Cells.{Reaches, lengths_of}
+use Rattle.reaches.specs.Cells.{Reaches}
 use Rattle.reaches.specs.Crossing.{crossed, crossed_from}
 use Rattle.reaches.proofs.CellLaws.{SameLengths, stations_lengths}
 use Rattle.walk.specs.Drawn.{station_at}

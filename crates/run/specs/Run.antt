@@ -1,5 +1,5 @@
 -- A whole job (01, "Rigs to try", the program sweep): its path laid, its vehicle placed, every step made, the widest place read off; or the step that was refused.
-use Rattle.std.specs.Prelude.{ℕ, zero, suc, ◌+◌, ◌≤◌, ◌<◌, ◌≡◌, Bool, true, ◌&&◌, eqb, length}
+use Rattle.std.specs.Prelude.{ℕ, zero, suc, ◌+◌, ◌≤◌, ◌<◌, ◌≡◌, true, ◌&&◌, eqb, length}
 use Rattle.number.specs.Read.{pick}
 use Rattle.job.specs.declared.Vehicle.{Vehicle}
 use Rattle.job.specs.declared.Job.{Job}
@@ -12,7 +12,7 @@ use Rattle.walk.specs.Tests.{lent, reaches_lent, path_sound, vehicle_sound}
 use Rattle.walk.specs.Rig.{drawn_start}
 use Rattle.reaches.specs.Cells.{Reaches, lengths_of, cleared}
 use Rattle.reaches.specs.Widest.{widest_among}
-use Rattle.stations.specs.Placing.{call_of, unless_refused}
+use Rattle.stations.specs.Placing.{unless_refused}
 use Rattle.run.specs.declared.Finish.{Finish}
 use Rattle.run.specs.declared.Ran.{Ran}
 use Rattle.run.specs.declared.Ran.TheVariants as R

@@ -11,7 +11,7 @@ ghost use Rattle.run.specs.Run.{finish_at, ran_over, OverEnsures, Runnable, Tell
 
 use job::{Job, Vehicle};
 use marks::Mark;
-use path::Laid;
+use path::PathRoom;
 use plane::Vec2;
 use reaches::Best;
 use walk::{Advanced, StepAnswer, Walk};
@@ -173,20 +173,21 @@ pub fn run(
         (path_runs xs.new ys.new gxs.new gys.new)
         (reach_runs left.new right.new marks.new) }
 {
-    let fault = job::judge(j);
-    if fault != 0 {
-        return Ran::Refused(fault);
+    if let Err(fault) = job::judge(j) {
+        return Ran::Refused(fault.number());
     }
-    let elements = j.elements;
-    let n = path::step_count(elements, j.count, j.step) + 1;
+    let n = path::step_count(&j.elements[..j.count], j.step) + 1;
     if !walk::tests::reaches_lent(n, left.len(), right.len(), marks.len()) {
         return Ran::Refused(21);
     }
-    let laid = path::lay(j, xs, ys, gxs, gys);
-    match laid {
-        Laid::Stations(asked) => {
-            run_over(j.vehicle, asked, xs, ys, gxs, gys, left, right, marks)
+    let mut room = PathRoom { xs, ys, gxs, gys };
+    match path::lay(j, &mut room) {
+        Ok(asked) => {
+            let path = room.laid();
+            run_over(
+                j.vehicle, asked, path.xs, path.ys, path.gxs, path.gys, left, right, marks,
+            )
         }
-        Laid::Refused(number) => Ran::Refused(number),
+        Err(fault) => Ran::Refused(fault.number()),
     }
 }

@@ -4,18 +4,17 @@ use mathlib.Core.Path.{◌≡◌, refl, sym, ◌∙◌, ap, subst}
 use mathlib.Core.Bool.{Bool, true, false, ◌&&◌}
 use mathlib.Core.List.{List}
 use mathlib.Core.Logic.{inl, inr}
-use native.Mathlib.Omega.{arith}
 use borrow.Author.Tests.{le-leb, eq-eqb}
 use lib.ListN.{length}
+use Rattle.std.specs.Prelude.{Ok, Err}
+use Rattle.refusal.specs.Numbers.{number_of}
+use Rattle.refusal.specs.declared.Refusal.{Refusal}
 use Rattle.number.specs.Read.{Bytes, Read, got, refused, pick}
 use Rattle.number.proofs.FieldCodec.{and}
 use Rattle.job.specs.declared.Job.{Job}
 use Rattle.job.specs.Faults.{judge}
 use Rattle.job_reader.specs.Record.{read_job}
-use Rattle.job_reader.specs.Answers.{job_read, ReadEnsures}
-use Rattle.job_reader.specs.declared.ReadAnswer.TheVariants as A
-use Rattle.job_reader.specs.declared.JobRead.{JobRead}
-use Rattle.job_writer.proofs.ClaimLaws.{accepted}
+use Rattle.job_reader.specs.Answers.{ReadEnsures}
 use Rattle.job_writer.proofs.RoundTrip.{read_written}
 use Rattle.path.specs.Stations.{stations}
 use Rattle.path.specs.Laying.{PathRuns, room_for}
@@ -108,17 +107,12 @@ module _ (s : List ℕ) (bytes : Bytes s) (p : PathRuns) (r : Reaches) where
     ranges = subst (IntoSo s) (sym f) (into_so x e);
   }
 
--- a refused reading is one of the number and the byte beside it
-pub refused_by : (x : Read Job) (r : JobRead) (n p : ℕ) → r ≡ job_read x → r.answer ≡ A.Refused n p → x ≡ refused n p
-refused_by (got j e) r n p k a = absurd (let z : A.Refused n p ≡ A.Accepted = sym a ∙ ap (λ (y : JobRead). y.answer) k in let y : ◌≡◌ {A = ℕ} 0 1 = cc in omega arith)
-refused_by (refused m q) r n p k a = let z : A.Refused n p ≡ A.Refused m q = sym a ∙ ap (λ (y : JobRead). y.answer) k in cc
-
 -- what `read_job` and `run` ensure, put together
-module _ (s : List ℕ) (read : JobRead) (k : ReadEnsures s read) (p : PathRuns) (r : Reaches) where
-  pub refused_tells : (n b : ℕ) → read.answer ≡ A.Refused n b → IntoEnsures s p r (S.Refused n b) p r
-  refused_tells n b a = into s k.bytes p r _ _ _ (refused n b) (refused_by (read_job s) read n b k.answer a) refl refl refl
+module _ (s : List ℕ) (p : PathRuns) (r : Reaches) where
+  pub refused_tells : (e : Refusal) → ReadEnsures s (Err e) → (n : ℕ) → n ≡ number_of e.fault → IntoEnsures s p r (S.Refused n e.place) p r
+  refused_tells e k n h =
+      into s k.bytes p r _ _ _ (refused (number_of e.fault) e.place) (sym k.answer)
+      (ap (λ (m : ℕ). S.Refused m e.place) h) refl refl
 
-  pub accepted_tells : read.answer ≡ A.Accepted → (answer : Ran) (p' : PathRuns) (r' : Reaches) → RunEnsures read.job p r answer p' r' → IntoEnsures s p r (swept_run answer) p' r'
-  accepted_tells a answer p' r' t =
-      let e = accepted (read_job s) read k.answer a in
-      into s k.bytes p r _ _ _ (got read.job e.0) e.1 (ap swept_run t.answered) t.path t.reaches
+  pub accepted_tells : (j : Job) → ReadEnsures s (Ok j) → (answer : Ran) (p' : PathRuns) (r' : Reaches) → RunEnsures j p r answer p' r' → IntoEnsures s p r (swept_run answer) p' r'
+  accepted_tells j k answer p' r' t = into s k.bytes p r _ _ _ (got j (length s)) (sym k.answer) (ap swept_run t.answered) t.path t.reaches

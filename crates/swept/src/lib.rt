@@ -8,7 +8,6 @@ ghost use Rattle.swept.specs.Swept.{swept_run};
 ghost use Rattle.swept.specs.Ranges.{IntoEnsures, SweptEnsures};
 ghost use Rattle.swept.specs.Claims.{FirstBytes};
 
-use job_reader::ReadAnswer;
 use run::{Finish, Ran};
 
 // Finished; stopped at a step, with the refusal, the unit and the step, both counted from 1; or refused, with the byte where the field starts (0 beside 21).
@@ -48,14 +47,9 @@ pub fn sweep_into(
         (path_runs xs.new ys.new gxs.new gys.new)
         (reach_runs left.new right.new marks.new) }
 {
-    let read = job_reader::read_job(bytes);
-    let answer = read.answer;
-    match answer {
-        ReadAnswer::Accepted => {
-            let ran = run::run(read.job, xs, ys, gxs, gys, left, right, marks);
-            run_told(ran)
-        }
-        ReadAnswer::Refused(number, place) => Swept::Refused(number, place),
+    match job_reader::read_job(bytes) {
+        Ok(job) => run_told(run::run(job, xs, ys, gxs, gys, left, right, marks)),
+        Err(refusal) => Swept::Refused(refusal.fault.number(), refusal.place),
     }
 }
 

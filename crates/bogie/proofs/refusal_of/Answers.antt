@@ -1,127 +1,75 @@
 -- `bogie::refusal_of` meets its contract, test by test.
-use Prim.Native.Nat.{ℕ, ◌+◌, ◌≤◌}
-use mathlib.Core.Path.{◌≡◌, sym, ◌∙◌, ap}
-use mathlib.Core.Bool.{true, false}
+use Prim.Native.Nat.{ℕ, ◌+◌}
+use mathlib.Core.Path.{◌≡◌, sym, ◌∙◌, subst}
+use mathlib.Core.Bool.{Bool, true, false}
 use native.Mathlib.Omega.{arith}
 use borrow.Author.Rules.{rules}
-use lib.ListN.{length}
+use borrow.Author.Tests.{leb-true}
+use lib.Dec.{leb}
+use lib.ListN.{length, take}
+use Rattle.number.proofs.FieldCodec.{both}
 use Rattle.job.specs.declared.Job.{Job}
-use Rattle.job.specs.Faults.{judge}
+use Rattle.job.specs.Faults.{judge, or_fault}
 use Rattle.job.proofs.Arrays.{unmapped}
-use Rattle.path.specs.Stations.{stations}
-use Rattle.path.specs.Laying.{PathRuns, path_runs, room_for}
-use Rattle.path.proofs.JobLaws.{accepted, stations_count}
+use Rattle.job.proofs.FaultLaws.{sound, numbered}
+use Rattle.path.specs.Stations.{step_total, stations}
+use Rattle.path.specs.Laying.{PathRuns}
+use Rattle.path.proofs.JobLaws.{accepted}
 use Rattle.walk.specs.Tests.{path_lent, reaches_lent}
-use Rattle.reaches.specs.Cells.{Reaches, reach_runs, lengths_of}
-use Rattle.bogie.specs.Settings.{Rail}
+use Rattle.reaches.specs.Cells.{Reaches, lengths_of}
+use Rattle.run.proofs.RunLaws.{counted}
+use Rattle.bogie.specs.Settings.{Rail, rail_allowed}
+use Rattle.bogie.specs.List.{list_refusal}
 use Rattle.bogie.proofs.ListLaws.{fault_first, path_short, lent_room, reaches_short, rail_last}
 use Rattle.bogie.proofs.refusal_of.Goals as goal
-use Rattle.bogie.proofs.refusal_of.Goals.{Start}
-use Rattle.bogie.proofs.refusal_of.Lts as lts
-use Rattle.bogie.proofs.refusal_of.Reads as reads
-use Rattle.bogie.proofs.refusal_of.Tie as tie
 
--- the steps of the code that the lemmas below speak of
-abbrev After-path_lent : Type 0
-After-path_lent = lts.After-path_lent tie.the-claims reads.Pre reads.Post
+-- a job without a fault, and the steps that it was counted to have
+module _ (j : Job) (f : judge j ≡ 0) (n : ℕ) (e : n ≡ step_total j.step 0 (take j.count j.elements)) where
+  path_told : (p : PathRuns) (t : Bool) → path_lent (n + 1) p ≡ t → path_lent (length (stations j)) p ≡ t
+  path_told p t = subst (λ (k : ℕ). path_lent k p ≡ t) (counted j n e)
 
-abbrev After-rail_allowed : Type 0
-After-rail_allowed = lts.After-rail_allowed tie.the-claims reads.Pre reads.Post
+  reaches_told : (r : Reaches) (t : Bool) → reaches_lent (n + 1) (lengths_of r) ≡ t → reaches_lent (length (stations j)) (lengths_of r) ≡ t
+  reaches_told r t = subst (λ (k : ℕ). reaches_lent k (lengths_of r) ≡ t) (counted j n e)
 
-abbrev After-reaches_lent : Type 0
-After-reaches_lent = lts.After-reaches_lent tie.the-claims reads.Pre reads.Post
+  -- its runs are lent: what is left is the rail
+  rail_told : (b : Rail) (p : PathRuns) (r : Reaches) → path_lent (n + 1) p ≡ true → reaches_lent (n + 1) (lengths_of r) ≡ true → (t : Bool) → rail_allowed b ≡ t → or_fault t 29 0 ≡ list_refusal j b p r
+  rail_told b p r x y = rail_last j b p r f (lent_room _ p (path_told p true x)) (reaches_told r true y)
 
-abbrev After-step_count-n : Type 0
-After-step_count-n = lts.After-step_count tie.the-claims reads.Pre reads.Post
+pub returns-in-Err : goal.returns-in-Err
+returns-in-Err c = c.number.ensures ∙ c.in-Err.ensures ∙ fault_first c.args.j _ _ _ (λ z. numbered c.in-Err.fault (c.in-Err.ensures ∙ z))
 
-abbrev Else-fault-ne0 : Type 0
-Else-fault-ne0 = lts.Else1 tie.the-claims reads.Pre reads.Post
-
-abbrev Else-not-reaches_lent : Type 0
-Else-not-reaches_lent = lts.Else3 tie.the-claims reads.Pre reads.Post
-
-module _ (s : Start) where
-  abbrev j : Job
-  j = s.args.j
-
-  abbrev rail : Rail
-  rail = record { lowest = s.args.lowest; pitch = s.args.pitch; number = s.args.number }
-
-  abbrev path : PathRuns
-  path = path_runs s.args.xs.now s.args.ys.now s.args.gxs.now s.args.gys.now
-
-  abbrev runs : Reaches
-  runs = reach_runs s.args.left.now s.args.right.now s.args.marks.now
-
-  places : length j.elements ≡ 64
-  places = search (rules, unmapped)
-
--- the job has no fault
-module _ (c : Else-fault-ne0) where
-  abbrev start : Start
-  start = c.before.before.before
-
-  no_fault_lem : judge (j start) ≡ 0
-  no_fault_lem = sym c.judge-fault.ensures ∙ c.if-fault-ne0.false
-
--- the stations that the runs are tested for are the job's
-module _ (c : After-step_count-n) where
-  abbrev from : Start
-  from = start c.before.before
-
-  total : c.step_count-n.result ≤ 2000
-  total = let e = c.before.before in omega (arith, c.step_count-n.ensures, (accepted (j (start e)) (places (start e)) (no_fault_lem e)).total)
-
-  counted : c.step_count-n.result + 1 ≡ length (stations (j from))
-  counted = ap (λ (n : ℕ). n + 1) c.step_count-n.ensures ∙ sym (stations_count (j from))
-
-  least : 1 ≤ length (stations (j from))
-  least = omega (arith, counted)
-
-  most : length (stations (j from)) ≤ 2001
-  most = omega (arith, counted, total)
-
--- the tests of the path and of the other three runs
-path_test : (c : After-path_lent) → let s = from c.before in c.path_lent.result ≡ path_lent (length (stations (j s))) (path s)
-path_test c = let s = from c.before in c.path_lent.ensures ∙ ap (λ (n : ℕ). path_lent n (path s)) (counted c.before)
-
-reaches_test : (c : After-reaches_lent) → let s = from c.before.before.before in c.reaches_lent.result ≡ reaches_lent (length (stations (j s))) (lengths_of (runs s))
-reaches_test c = let k = c.before.before.before in c.reaches_lent.ensures ∙ ap (λ (n : ℕ). reaches_lent n (lengths_of (runs (from k)))) (counted k)
-
--- past both
-module _ (c : After-rail_allowed) where
-  abbrev lent : Else-not-reaches_lent
-  lent = c.before
-
-  abbrev begun : After-step_count-n
-  begun = lent.before.before.before.before
-
-  abbrev at : Start
-  at = from begun
-
-  room : room_for (length (stations (j at))) (path at) ≡ true
-  room = lent_room _ (path at) (sym (path_test lent.before.before.before) ∙ lent.if-not-path_lent.false)
-
-  reached : reaches_lent (length (stations (j at))) (lengths_of (runs at)) ≡ true
-  reached = sym (reaches_test lent.before) ∙ lent.if-not-reaches_lent.false
-
-pub returns-then-fault-ne0 : goal.returns-then-fault-ne0
-returns-then-fault-ne0 c = let s = c.before.before.before.before in c.judge-fault.ensures ∙ fault_first (j s) (rail s) (path s) (runs s) (λ e. c.if-fault-ne0.true (c.judge-fault.ensures ∙ e))
+pub shared_ref_as_front-step_count : goal.shared_ref_as_front-step_count
+shared_ref_as_front-step_count c = leb-true c.args.j.count 64 (both (leb 1 c.args.j.count) _ (sound c.args.j (sym c.in_default.ensures)).count).1
 
 pub step_count-n-requires : goal.step_count-n-requires
-step_count-n-requires c = accepted (j (start c.before.before)) (places (start c.before.before)) (no_fault_lem c.before.before)
+step_count-n-requires c =
+    let n : length c.args.j.elements ≡ 64 = search (rules, unmapped) in
+    accepted c.args.j n (sym c.in_default.ensures)
 
 pub overflow_add-n : goal.overflow_add-n
-overflow_add-n c = record { fits = omega (arith, total c.before) }
+overflow_add-n c =
+    let n : length c.args.j.elements ≡ 64 = search (rules, unmapped) in
+    record { fits = omega (arith, c.step_count-n.ensures, (accepted c.args.j n (sym c.in_default.ensures)).total) }
 
 pub returns-then-not-path_lent : goal.returns-then-not-path_lent
-returns-then-not-path_lent c = let k = c.before.before.before in let s = from k in path_short (j s) (rail s) (path s) (runs s) (no_fault_lem k.before.before) (least k) (most k) (sym (path_test c.before.before) ∙ c.if-not-path_lent.true)
+returns-then-not-path_lent c =
+    let j = c.args.j in
+    let f = sym c.in_default.ensures in
+    let n : length j.elements ≡ 64 = search (rules, unmapped) in
+    let e = counted j _ c.step_count-n.ensures in
+    path_short j _ _ _ f (omega (arith, e)) (omega (arith, e, c.step_count-n.ensures, (accepted j n f).total)) (path_told j f _ c.step_count-n.ensures _ false (sym c.path_lent.ensures ∙ c.if-not-path_lent.true))
 
 pub returns-then-not-reaches_lent : goal.returns-then-not-reaches_lent
-returns-then-not-reaches_lent c = let k = c.before.before.before.before.before in let s = from k in reaches_short (j s) (rail s) (path s) (runs s) (no_fault_lem k.before.before) (sym (reaches_test c.before.before) ∙ c.if-not-reaches_lent.true)
+returns-then-not-reaches_lent c =
+    let f = sym c.in_default.ensures in
+    reaches_short c.args.j _ _ _ f (reaches_told c.args.j f _ c.step_count-n.ensures _ false (sym c.reaches_lent.ensures ∙ c.if-not-reaches_lent.true))
 
 pub returns-then-not-rail_allowed : goal.returns-then-not-rail_allowed
-returns-then-not-rail_allowed c = let b = c.before.before in let s = at b in rail_last (j s) (rail s) (path s) (runs s) (no_fault_lem (begun b).before.before) (room b) (reached b) false (sym b.rail_allowed.ensures ∙ c.if-not-rail_allowed.true)
+returns-then-not-rail_allowed c =
+    rail_told c.args.j (sym c.in_default.ensures) _ c.step_count-n.ensures _ _ _ (sym c.path_lent.ensures ∙ c.if-not-path_lent.false) (sym c.reaches_lent.ensures ∙ c.if-not-reaches_lent.false) false
+    (sym c.rail_allowed.ensures ∙ c.if-not-rail_allowed.true)
 
 pub returns : goal.returns
-returns c = let b = c.before.before in let s = at b in rail_last (j s) (rail s) (path s) (runs s) (no_fault_lem (begun b).before.before) (room b) (reached b) true (sym b.rail_allowed.ensures ∙ c.if-not-rail_allowed.false)
+returns c =
+    rail_told c.args.j (sym c.in_default.ensures) _ c.step_count-n.ensures _ _ _ (sym c.path_lent.ensures ∙ c.if-not-path_lent.false) (sym c.reaches_lent.ensures ∙ c.if-not-reaches_lent.false) true
+    (sym c.rail_allowed.ensures ∙ c.if-not-rail_allowed.false)

@@ -1,5 +1,5 @@
 -- `bogie::walk_settings` meets its contract: after each turn the list and the runs are those of the settings walked so far.
-use Prim.Native.Nat.{ℕ, ◌-◌, ◌≤◌}
+use Prim.Native.Nat.{ℕ, ◌≤◌}
 use mathlib.Core.Path.{◌≡◌, refl}
 use native.Mathlib.Omega.{arith}
 use Rattle.job.specs.declared.Vehicle.{Vehicle}

@@ -1,5 +1,5 @@
 -- `run::walk_on` meets its contract: at each turn the walk from here to the end is the walk from the start to the end.
-use Prim.Native.Nat.{ℕ, ◌-◌}
+use Prim.Native.Nat.{ℕ}
 use mathlib.Core.Path.{◌≡◌, refl, sym, ◌∙◌}
 use native.Mathlib.Omega.{arith}
 use Rattle.path.specs.Laying.{PathRuns, path_runs}
