@@ -1,13 +1,13 @@
 -- The whole text, from the lines that were put. Assumes nothing.
-use Prim.Native.Nat.{ℕ, zero, suc, ◌+◌, ◌-◌, ◌≤◌}
+use Prim.Native.Nat.{ℕ, zero, suc, ◌-◌, ◌≤◌}
 use mathlib.Core.Path.{◌≡◌, refl, ◌∙◌, ap}
-use mathlib.Core.List.{List, [], ◌++◌}
+use mathlib.Core.List.{List}
 use native.Mathlib.Omega.{arith}
 use native.Mathlib.Nat.{zero-add}
-use lib.ListN.{length, take, drop, replicate, length-replicate}
+use lib.ListN.{length, drop, replicate, length-replicate}
 use lib.Seq.{sets, sets-eq, drop_at}
 use Rattle.number.proofs.CodecMany.{take_sets}
-use Rattle.answer_text.specs.Appending.{appended, nothing, Line}
+use Rattle.answer_text.specs.Appending.{nothing, Line}
 use Rattle.answer_text.specs.Answers.{TextIs}
 use Rattle.answer_text.specs.declared.Text.{Text}
 

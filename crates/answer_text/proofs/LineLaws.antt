@@ -28,9 +28,5 @@ pub within : {t u : Text} {a : List ℕ} {m : ℕ} (k : ℕ) → m ≤ k → Lin
 within k h l = record { put = l.put; width = omega (arith, l.width) }
 
 -- from the empty text on
-pub at_start : {t : Text} → t ≡ nothing → t.length ≡ 0
-unfolding nothing
-at_start e = ap (λ (x : Text). x.length) e
-
 pub from_start : {t u : Text} {a : List ℕ} {m : ℕ} → t ≡ nothing → Line t a m u → Line nothing a m u
 from_start {u} {a} {m} e l = subst (λ (x : Text). Line x a m u) e l

@@ -3,7 +3,7 @@
 
 pub mod settings;
 
-ghost use Rattle.std.specs.Prelude.{◌≡◌, ◌++◌, ◌+◌, length};
+ghost use Rattle.std.specs.Prelude.{◌≡◌, ◌≤◌, ◌++◌, ◌+◌, length, take};
 ghost use Rattle.text.specs.Decimal.{decimal, signed_decimal};
 ghost use Rattle.answer_text.specs.Printed.{steps_line, place_line, widest_line, front_line, finished_lines, refused_line, stopped_line};
 ghost use Rattle.answer_text.specs.Appending.{nothing, Line};
@@ -17,95 +17,100 @@ use run::Finish;
 use swept::Swept;
 
 // The lines stand at the start of the array; zeros stand after them.
+// Kept: an array with its count, because there is no heap and the zeros are promised.
 #[derive(Clone, Copy)]
 pub struct Text {
     pub bytes: [u8; 192],
     pub length: usize,
 }
 
-pub fn put_words(t: Text, words: &[u8]) -> Text
-    requires { Space t (length words.now) }
-    ensures { Line t words.now (length words.now) result }
-{
-    let mut bytes = t.bytes;
-    let at = t.length;
-    let end = text::put_bytes(&mut bytes, at, words);
-    Text { bytes, length: end }
-}
-
-// Words, and a number after them, which takes 20 bytes at most.
-pub fn put_number(t: Text, words: &[u8], n: u64) -> Text
-    requires { Space t (length words.now + 20) }
-    ensures { Line t (words.now ++ decimal n) (length words.now + 20) result }
-{
-    let worded = put_words(t, words);
-    let mut bytes = worded.bytes;
-    let at = worded.length;
-    let end = text::put_decimal(&mut bytes, at, n);
-    Text { bytes, length: end }
-}
-
-// The same of a signed number, with its sign.
-fn put_signed(t: Text, words: &[u8], z: i64) -> Text
-    requires { Space t (length words.now + 20) }
-    ensures { Line t (words.now ++ signed_decimal z) (length words.now + 20) result }
-{
-    let worded = put_words(t, words);
-    let mut bytes = worded.bytes;
-    let at = worded.length;
-    let end = text::put_signed(&mut bytes, at, z);
-    Text { bytes, length: end }
-}
-
-fn put_steps(t: Text, steps: usize) -> Text
-    requires { Space t 27 }
-    ensures { Line t (steps_line steps) 27 result }
-{
-    let a = put_number(t, b"steps ", steps as u64);
-    put_words(a, b"\n")
-}
-
-fn put_place(t: Text, p: Place) -> Text
-    requires { Space t 91 }
-    ensures { Line t (place_line p) 91 result }
-{
-    let width = p.width;
-    let left = p.left;
-    let right = p.right;
-    let a = put_number(t, b"widest ", p.station as u64);
-    let b = put_signed(a, b" ", width);
-    let c = put_signed(b, b" ", left);
-    let d = put_signed(c, b" ", right);
-    put_words(d, b"\n")
-}
-
-fn put_widest(t: Text, best: Best) -> Text
-    requires { Space t 91 }
-    ensures { Line t (widest_line best) 91 result }
-{
-    match best {
-        Best::Nothing => put_words(t, b"widest none\n"),
-        Best::Found(p) => put_place(t, p),
+impl Text {
+    pub fn empty() -> Text
+        ensures value { result ≡ nothing }
+        ensures length { result.length ≡ 0 }
+    {
+        Text {
+            bytes: [0u8; 192],
+            length: 0,
+        }
     }
-}
 
-fn put_front(t: Text, v: Vec2) -> Text
-    requires { Space t 48 }
-    ensures { Line t (front_line v) 48 result }
-{
-    let x = v.x;
-    let y = v.y;
-    let a = put_signed(t, b"front ", x);
-    let b = put_signed(a, b" ", y);
-    put_words(b, b"\n")
-}
+    // The lines, without the zeros after them.
+    pub fn as_bytes(&self) -> &[u8]
+        requires { self.now.length ≤ 192 }
+        ensures { result.now ≡ take self.now.length self.now.bytes }
+    {
+        &self.bytes[..self.length]
+    }
 
-pub fn empty() -> Text
-    ensures { result ≡ nothing }
-{
-    Text {
-        bytes: [0u8; 192],
-        length: 0,
+    pub fn put_words(mut self, words: &[u8]) -> Text
+        requires { Space self (length words.now) }
+        ensures { Line self words.now (length words.now) result }
+    {
+        let at = self.length;
+        self.length = text::put_bytes(&mut self.bytes, at, words);
+        self
+    }
+
+    // Words, and a number after them, which takes 20 bytes at most.
+    pub fn put_number(self, words: &[u8], n: u64) -> Text
+        requires { Space self (length words.now + 20) }
+        ensures { Line self (words.now ++ decimal n) (length words.now + 20) result }
+    {
+        let mut worded = self.put_words(words);
+        let at = worded.length;
+        worded.length = text::put_decimal(&mut worded.bytes, at, n);
+        worded
+    }
+
+    // The same of a signed number, with its sign.
+    // Kept: beside `put_number`, because a trait over both numbers would be longer than the one line in which they differ.
+    fn put_signed(self, words: &[u8], z: i64) -> Text
+        requires { Space self (length words.now + 20) }
+        ensures { Line self (words.now ++ signed_decimal z) (length words.now + 20) result }
+    {
+        let mut worded = self.put_words(words);
+        let at = worded.length;
+        worded.length = text::put_signed(&mut worded.bytes, at, z);
+        worded
+    }
+
+    // Kept: the cast, here and below, because u64 has no From of a usize.
+    fn put_steps(self, steps: usize) -> Text
+        requires { Space self 27 }
+        ensures { Line self (steps_line steps) 27 result }
+    {
+        self.put_number(b"steps ", steps as u64).put_words(b"\n")
+    }
+
+    fn put_place(self, p: Place) -> Text
+        requires { Space self 91 }
+        ensures { Line self (place_line p) 91 result }
+    {
+        self.put_number(b"widest ", p.station as u64)
+            .put_signed(b" ", p.width)
+            .put_signed(b" ", p.left)
+            .put_signed(b" ", p.right)
+            .put_words(b"\n")
+    }
+
+    fn put_widest(self, best: Best) -> Text
+        requires { Space self 91 }
+        ensures { Line self (widest_line best) 91 result }
+    {
+        match best {
+            Best::Nothing => self.put_words(b"widest none\n"),
+            Best::Found(p) => self.put_place(p),
+        }
+    }
+
+    fn put_front(self, v: Vec2) -> Text
+        requires { Space self 48 }
+        ensures { Line self (front_line v) 48 result }
+    {
+        self.put_signed(b"front ", v.x)
+            .put_signed(b" ", v.y)
+            .put_words(b"\n")
     }
 }
 
@@ -113,28 +118,31 @@ pub fn empty() -> Text
 fn finished_text(f: Finish) -> Text
     ensures { Line nothing (finished_lines f) 166 result }
 {
-    let widest = f.widest;
-    let front = f.front;
-    let a = put_steps(empty(), f.steps);
-    let b = put_widest(a, widest);
-    put_front(b, front)
+    Text::empty()
+        .put_steps(f.steps)
+        .put_widest(f.widest)
+        .put_front(f.front)
 }
 
+// Kept: a refusal's number, because it is printed as one and a narrower type would ask more of callers.
 pub fn refused_text(number: u8, byte: usize) -> Text
     ensures { Line nothing (refused_line number byte) 53 result }
 {
-    let a = put_number(empty(), b"refused ", number as u64);
-    let b = put_number(a, b" at ", byte as u64);
-    put_words(b, b"\n")
+    Text::empty()
+        .put_number(b"refused ", u64::from(number))
+        .put_number(b" at ", byte as u64)
+        .put_words(b"\n")
 }
 
+// Kept: the number, for the same reason.
 pub fn stopped_text(number: u8, unit: usize, step: usize) -> Text
     ensures { Line nothing (stopped_line number unit step) 81 result }
 {
-    let a = put_number(empty(), b"refused ", number as u64);
-    let b = put_number(a, b" unit ", unit as u64);
-    let c = put_number(b, b" step ", step as u64);
-    put_words(c, b"\n")
+    Text::empty()
+        .put_number(b"refused ", u64::from(number))
+        .put_number(b" unit ", unit as u64)
+        .put_number(b" step ", step as u64)
+        .put_words(b"\n")
 }
 
 // Any answer's lines: the widest of them fit.

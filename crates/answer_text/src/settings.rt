@@ -6,25 +6,28 @@ ghost use Rattle.answer_text.specs.Inner.{Space};
 ghost use Rattle.answer_text.specs.Settings.{setting_line, number_line, listed_lines, printed_settings};
 ghost use Rattle.answer_text.specs.Forms.{SettingForms};
 
-use crate::{Text, empty, put_number, put_signed, put_words, refused_text};
+use crate::{Text, refused_text};
 use offered::Offered;
 use ranking::{Listed, Setting};
 
-fn put_setting(t: Text, s: Setting) -> Text
-    requires { Space t 50 }
-    ensures { Line t (setting_line s) 50 result }
-{
-    let width = s.width;
-    let a = put_number(t, b"setting ", s.wheelbase as u64);
-    let b = put_signed(a, b" ", width);
-    put_words(b, b"\n")
+impl Text {
+    fn put_setting(self, s: Setting) -> Text
+        requires { Space self 50 }
+        ensures { Line self (setting_line s) 50 result }
+    {
+        self.put_number(b"setting ", u64::from(s.wheelbase))
+            .put_signed(b" ", s.width)
+            .put_words(b"\n")
+    }
 }
 
+// Kept: a refusal's number, because it is printed as one and the list that it comes from has it so.
 fn numbered_text(number: u8) -> Text
     ensures { Line nothing (number_line number) 29 result }
 {
-    let a = put_number(empty(), b"refused ", number as u64);
-    put_words(a, b"\n")
+    Text::empty()
+        .put_number(b"refused ", u64::from(number))
+        .put_words(b"\n")
 }
 
 // Best first, as they stand in the list.
@@ -32,9 +35,9 @@ fn listed_text(l: Listed) -> Text
     ensures { Line nothing (listed_lines l) 150 result }
 {
     match l {
-        Listed::One(a) => put_setting(empty(), a),
-        Listed::Two(a, b) => put_setting(put_setting(empty(), a), b),
-        Listed::Three(a, b, c) => put_setting(put_setting(put_setting(empty(), a), b), c),
+        Listed::One(a) => Text::empty().put_setting(a),
+        Listed::Two(a, b) => Text::empty().put_setting(a).put_setting(b),
+        Listed::Three(a, b, c) => Text::empty().put_setting(a).put_setting(b).put_setting(c),
         Listed::Refused(number) => numbered_text(number),
     }
 }

@@ -1,15 +1,8 @@
--- `answer_text::settings::numbered_text` meets its contract. Assumes nothing.
-use native.Mathlib.Omega.{arith}
+-- `answer_text::settings::numbered_text` meets its contract.
 use Rattle.text.specs.Ascii.{ascii}
-use Rattle.answer_text.proofs.LineLaws.{longer, join, at_start, from_start}
+use Rattle.answer_text.proofs.LineLaws.{join, from_start}
 use Rattle.answer_text.proofs.settings.numbered_text.Goals as goal
-
-pub put_number-a-requires : goal.put_number-a-requires
-put_number-a-requires c = record { ends = omega (arith, at_start c.empty.ensures) }
-
-pub put_words-requires : goal.put_words-requires
-put_words-requires c = record { ends = omega (arith, at_start c.empty.ensures, longer c.put_number-a.ensures) }
 
 pub returns : goal.returns
 unfolding ascii
-returns c = from_start c.empty.ensures (join c.put_number-a.ensures c.put_words.ensures)
+returns c = from_start c.empty.ensures.value (join (rw c.from.ensures at c.put_number.ensures) c.put_words.ensures)
