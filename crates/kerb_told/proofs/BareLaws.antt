@@ -1,8 +1,8 @@
 -- An answer that is not 0 has no entries.
 use mathlib.Core.Path.{◌≡◌, refl}
 use mathlib.Core.List.{[]}
-use Rattle.kerb_reader.specs.declared.KerbRead.{KerbRead}
-use Rattle.kerb_reader.specs.declared.KerbRead.TheVariants as R
+use Rattle.kerb_reader.specs.Answers.{KerbRead}
+use Rattle.kerb_reader.specs.Answers as R
 use Rattle.kerbed.specs.declared.Kerbed.{Kerbed}
 use Rattle.kerbed.specs.declared.Kerbed.TheVariants as K
 use Rattle.kerb_told.specs.Entries.{touch_told, ticks_told}
@@ -14,6 +14,6 @@ touch_bare (K.Stopped n u k) h = refl
 touch_bare (K.Refused n p) h = refl
 
 pub ticks_bare : (a : KerbRead) → ((ticks_told a).number ≡ 0 → ⊥) → (ticks_told a).entries ≡ []
-ticks_bare (R.Vertices n) h = absurd (h refl)
-ticks_bare (R.RefusedAt n p) h = refl
-ticks_bare (R.Refused n) h = refl
+ticks_bare (R.vertices n) h = absurd (h refl)
+ticks_bare (R.refused_at n p) h = refl
+ticks_bare (R.refused n) h = refl

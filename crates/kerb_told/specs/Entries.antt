@@ -1,8 +1,8 @@
 -- What a report and a reading come to for programs in C and Rust: a number, and the entries at the start of a lent run. A refusal writes none.
-use Rattle.std.specs.Prelude.{ℕ, [], ◌∷◌, pos}
+use Rattle.std.specs.Prelude.{[], ◌∷◌, pos}
 use Rattle.answer_run.specs.Answers.{Told, told, at_byte, at_unit}
-use Rattle.kerb_reader.specs.declared.KerbRead.{KerbRead}
-use Rattle.kerb_reader.specs.declared.KerbRead.TheVariants as R
+use Rattle.kerb_reader.specs.Answers.{KerbRead}
+use Rattle.kerb_reader.specs.Answers as R
 use Rattle.kerbed.specs.declared.Kerbed.{Kerbed}
 use Rattle.kerbed.specs.declared.Kerbed.TheVariants as K
 
@@ -15,6 +15,6 @@ touch_told (K.Refused n p) = told (at_byte n p) []
 
 -- how many vertices stand in the two runs
 abbrev pub ticks_told : KerbRead → Told
-ticks_told (R.Vertices n) = told 0 (pos n ∷ [])
-ticks_told (R.RefusedAt n p) = told (at_byte n p) []
-ticks_told (R.Refused n) = told n []
+ticks_told (R.vertices n) = told 0 (pos n ∷ [])
+ticks_told (R.refused_at n p) = told (at_byte n p) []
+ticks_told (R.refused n) = told n []

@@ -1,8 +1,8 @@
 -- What the functions that are no entries require of their callers: room in the answer run, and what stands beside the answer in its ranges.
 use Rattle.std.specs.Prelude.{ℕ, ◌≤◌}
 use Rattle.answer_run.specs.Inner.{Room, ByteFits, UnitFits}
-use Rattle.kerb_reader.specs.declared.KerbRead.{KerbRead}
-use Rattle.kerb_reader.specs.declared.KerbRead.TheVariants as R
+use Rattle.kerb_reader.specs.Answers.{KerbRead}
+use Rattle.kerb_reader.specs.Answers as R
 use Rattle.kerbed.specs.declared.Kerbed.{Kerbed}
 use Rattle.kerbed.specs.declared.Kerbed.TheVariants as K
 
@@ -22,9 +22,9 @@ pub record AnswerFits (a : Kerbed) (n : ℕ) : Type 0 where
   pub ranges : KerbedFits a
 
 abbrev pub ReadFits : KerbRead → Type 0
-ReadFits (R.Vertices n) = n ≤ 500
-ReadFits (R.RefusedAt n p) = ByteFits p
-ReadFits (R.Refused n) = Unit {0}
+ReadFits (R.vertices n) = n ≤ 500
+ReadFits (R.refused_at n p) = ByteFits p
+ReadFits (R.refused n) = Unit {0}
 
 pub record TicksFit (a : KerbRead) (n : ℕ) : Type 0 where
   pub room : Room 0 1 n

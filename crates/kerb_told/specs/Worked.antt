@@ -1,7 +1,7 @@
 -- Each kind of answer as it stands in an answer run, entry by entry: the orders that no law fixes.
 use Rattle.std.specs.Prelude.{◌≡◌, [], ◌∷◌, pos}
 use Rattle.answer_run.specs.Answers.{told}
-use Rattle.kerb_reader.specs.declared.KerbRead.TheVariants as R
+use Rattle.kerb_reader.specs.Answers as R
 use Rattle.kerbed.specs.declared.Kerbed.TheVariants as K
 use Rattle.kerb_told.specs.Entries.{touch_told, ticks_told}
 
@@ -14,6 +14,6 @@ pub record WorkedEntries : Type 0 where
   pub stopped : touch_told (K.Stopped 23 2 5) ≡ told 328215 []
   pub refused : touch_told (K.Refused 8 20) ≡ told 5128 []
   -- the number of vertices; 13 at byte 9 of the geometry; no room in the runs
-  pub vertices : ticks_told (R.Vertices 2) ≡ told 0 (pos 2 ∷ [])
-  pub unread : ticks_told (R.RefusedAt 13 9) ≡ told 2317 []
-  pub no_room : ticks_told (R.Refused 21) ≡ told 21 []
+  pub vertices : ticks_told (R.vertices 2) ≡ told 0 (pos 2 ∷ [])
+  pub unread : ticks_told (R.refused_at 13 9) ≡ told 2317 []
+  pub no_room : ticks_told (R.refused 21) ≡ told 21 []

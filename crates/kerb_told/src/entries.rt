@@ -30,6 +30,7 @@ pub fn tell_touch(k: Kerbed, answer: &mut [i64]) -> u32
             0
         }
         Kerbed::Touch(step, point) => {
+            // Kept: the casts, because i64 has no From of a usize.
             put_three(answer, 1, step as i64, point as i64);
             0
         }

@@ -12,18 +12,20 @@ ghost use Rattle.kerb_told.specs.Forms.{KerbForms};
 use answer_text::Text;
 use kerbed::Kerbed;
 
+// Kept: the casts, because u64 has no From of a usize.
 fn touch_text(step: usize, point: usize) -> Text
     ensures { Line nothing (touch_line step point) 48 result }
 {
-    let a = answer_text::put_number(answer_text::empty(), b"touch ", step as u64);
-    let b = answer_text::put_number(a, b" ", point as u64);
-    answer_text::put_words(b, b"\n")
+    Text::empty()
+        .put_number(b"touch ", step as u64)
+        .put_number(b" ", point as u64)
+        .put_words(b"\n")
 }
 
 fn none_text() -> Text
     ensures { Line nothing none_line 11 result }
 {
-    answer_text::put_words(answer_text::empty(), b"touch none\n")
+    Text::empty().put_words(b"touch none\n")
 }
 
 // Any answer's line: the longest of them fits.

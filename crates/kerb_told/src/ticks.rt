@@ -1,22 +1,27 @@
 // A kerb that was read, as a number and an entry of a lent run.
 ghost use Rattle.std.specs.Prelude.{length};
 ghost use Rattle.answer_run.specs.Answers.{TellEnsures};
+ghost use Rattle.kerb_reader.specs.Answers.{as_kerb};
 ghost use Rattle.kerb_told.specs.Entries.{ticks_told};
 ghost use Rattle.kerb_told.specs.Inner.{TicksFit};
 
-use kerb_reader::KerbRead;
+use kerb_reader::KerbRefusal;
+use refusal::Fault;
 
 // A reading's number; how many vertices there are is written where it is not refused, and only there.
-pub fn tell_ticks(k: KerbRead, answer: &mut [i64]) -> u32
-    requires { TicksFit k (length answer.old) }
-    ensures { TellEnsures (ticks_told k) answer.old result answer.new }
+pub fn tell_ticks(k: Result<usize, KerbRefusal>, answer: &mut [i64]) -> u32
+    requires { TicksFit (as_kerb k) (length answer.old) }
+    ensures { TellEnsures (ticks_told (as_kerb k)) answer.old result answer.new }
 {
     match k {
-        KerbRead::Vertices(n) => {
+        Ok(n) => {
+            // Kept: the cast, because i64 has no From of a usize.
             answer[0] = n as i64;
             0
         }
-        KerbRead::RefusedAt(number, byte) => answer_run::at_byte(number, byte),
-        KerbRead::Refused(number) => number as u32,
+        Err(KerbRefusal::Field(refusal)) => {
+            answer_run::at_byte(refusal.fault.number(), refusal.place)
+        }
+        Err(KerbRefusal::NoRoom) => u32::from(Fault::RunTooShort.number()),
     }
 }

@@ -6,13 +6,14 @@ use mathlib.Core.List.{List}
 use mathlib.Core.Logic.{inl, inr}
 use native.Mathlib.Omega.{arith}
 use lib.ListN.{length}
+use Rattle.std.specs.Prelude.{Option, Some, None, Ok, Err}
+use Rattle.refusal.specs.Numbers.{answered, refused as turned_down, number_of}
+use Rattle.refusal.specs.declared.Fault.{Fault}
 use Rattle.number.specs.Read.{pick}
 use Rattle.number.proofs.FieldCodec.{both}
 use Rattle.plane.specs.declared.Vec2.{Vec2}
 use Rattle.job.specs.declared.Job.{Job}
 use Rattle.job.specs.Faults.{judge}
-use Rattle.path.specs.declared.Laid.{Laid}
-use Rattle.path.specs.declared.Laid.TheVariants as L
 use Rattle.path.specs.Stations.{stations}
 use Rattle.path.specs.Laying.{PathRuns, LayEnsures}
 use Rattle.path.proofs.JobLaws.{stations_answered, laid_answered}
@@ -23,15 +24,12 @@ use Rattle.walk.proofs.PathTests.{path_station}
 use Rattle.walk.proofs.RecordTests.{lent_path}
 use Rattle.walk.proofs.SoundKept.{start_sound}
 use Rattle.reaches.specs.Cells.{lengths_of}
-use Rattle.stations.specs.Placing.{call_of}
 use Rattle.stations.specs.Stepping.{points_at}
 use Rattle.run.specs.Run.{job_path}
 use Rattle.run.specs.Walking.{steps_left}
 use Rattle.run.proofs.RunLaws.{tests_passed, runnable}
 use Rattle.swept.specs.Swept.{empty_path, empty_reaches}
 use Rattle.swept.proofs.SweptLaws.{run_passes}
-use Rattle.kerb_line.specs.declared.Contact.{Contact}
-use Rattle.kerb_line.specs.declared.Contact.TheVariants as C
 use Rattle.kerb_line.specs.Kerb.{KerbRuns, vertices, kerb_lent, kerb_sound}
 use Rattle.kerb_line.specs.Contact.{lowest_touch}
 use Rattle.kerb_report.specs.declared.KerbReport.{KerbReport}
@@ -50,9 +48,9 @@ pub clash : {A : Type 0} → ◌≡◌ {A = ℕ} 0 1 → A
 clash z = absurd (omega arith)
 
 -- looking ahead refuses nothing
-looked : (k m : ℕ) (o : Outcome) (x : Contact) (later : KerbReport) → (later ≡ R.Refused m → ⊥) → after_step k o (first_or k x later) ≡ R.Refused m → ⊥
-looked k m made (C.Point p) later h e = clash cc
-looked k m made C.Nothing later h e = h e
+looked : (k m : ℕ) (o : Outcome) (x : Option ℕ) (later : KerbReport) → (later ≡ R.Refused m → ⊥) → after_step k o (first_or k x later) ≡ R.Refused m → ⊥
+looked k m made (Some p) later h e = clash cc
+looked k m made None later h e = h e
 looked k m (refused n) x later h e = clash cc
 looked k m (refused_at n u) x later h e = clash cc
 
@@ -109,13 +107,13 @@ told_so (R.Refused m) (inr (inr e)) k = absurd (k (ap R.Refused e))
 
 module _ (j : Job) (sound : judge j ≡ 0) where
   -- it is laid
-  pub laid_not_refused : (m : ℕ) (q : PathRuns) → LayEnsures j empty_path (L.Refused m) q → ⊥
-  laid_not_refused m q t =
+  pub laid_not_refused : (f : Fault) (q : PathRuns) → LayEnsures j empty_path (Err f) q → ⊥
+  laid_not_refused f q t =
       let room = (tests_passed j empty_path empty_reaches (run_passes j sound)).1 in
-      let z : L.Refused m ≡ L.Stations (length (stations j)) = t.answered ∙ sym (laid_answered j empty_path sound room).answered in
+      let z : turned_down (number_of f) ≡ answered (length (stations j)) = t.answered ∙ sym (laid_answered j empty_path sound room).answered in
       clash cc
 
-  module _ (m : ℕ) (q : PathRuns) (t : LayEnsures j empty_path (L.Stations m) q) where
+  module _ (m : ℕ) (q : PathRuns) (t : LayEnsures j empty_path (Ok m) q) where
     reaches_lent_lem : reaches_lent m (lengths_of empty_reaches) ≡ true
     reaches_lent_lem =
         let r = (tests_passed j empty_path empty_reaches (run_passes j sound)).2 in

@@ -1,6 +1,6 @@
 -- From what reading a job and a geometry ensures to what they come to.
 use Prim.Native.Nat.{ℕ, zero, suc, ◌<◌}
-use mathlib.Core.Path.{◌≡◌, refl, sym, ◌∙◌, ap, subst}
+use mathlib.Core.Path.{◌≡◌, refl, sym, ◌∙◌, ap}
 use mathlib.Core.Bool.{Bool, true, false}
 use mathlib.Core.List.{List}
 use mathlib.Core.Logic.{inl, inr}
@@ -8,22 +8,19 @@ use native.Mathlib.Omega.{arith}
 use borrow.Author.Tests.{le-leb}
 use lib.ListN.{length}
 use lib.IntN.{ℤ}
+use Rattle.std.specs.Prelude.{Ok, Err}
+use Rattle.refusal.specs.Numbers.{number_of}
+use Rattle.refusal.specs.declared.Refusal.{Refusal}
 use Rattle.number.specs.Read.{Read, got, refused, pick}
 use Rattle.number.proofs.FieldCodec.{and}
 use Rattle.job.specs.declared.Job.{Job}
 use Rattle.job.specs.Faults.{judge}
-use Rattle.job_reader.specs.Record.{read_job}
 use Rattle.job_reader.specs.Answers.{ReadEnsures}
-use Rattle.job_reader.specs.declared.ReadAnswer.TheVariants as A
-use Rattle.job_reader.specs.declared.JobRead.{JobRead}
-use Rattle.job_writer.proofs.ClaimLaws.{accepted}
 use Rattle.job_writer.proofs.RoundTrip.{read_written}
 use Rattle.swept.proofs.RangeLaws.{refused_so}
-use Rattle.swept.proofs.SweptLaws.{refused_by}
 use Rattle.kerb_line.specs.Kerb.{KerbRuns, kerb_runs, vertex_at, kerb_lent, vertex_sound, kerb_sound}
 use Rattle.kerb_reader.specs.declared.Survey.{Survey}
-use Rattle.kerb_reader.specs.declared.KerbRead.{KerbRead}
-use Rattle.kerb_reader.specs.declared.KerbRead.TheVariants as R
+use Rattle.kerb_reader.specs.Answers as R
 use Rattle.kerb_reader.specs.Geometry.{vertices_of, read_geometry}
 use Rattle.kerb_reader.specs.Ticks.{room_in, east_ticks, north_ticks, kerb_answer, ticks_in, KerbEnsures}
 use Rattle.kerb_reader.specs.Claims.{KerbWithin}
@@ -40,28 +37,28 @@ use Rattle.kerbed.proofs.KerbedLaws.{clash, job_passes}
 -- ---- a geometry that was read into runs of zeros
 
 module _ (j : Job) where
-  room_told : (b : Bool) (g : Survey) (n : ℕ) (xs ys : List ℤ) → R.Vertices n ≡ pick b (R.Vertices (length (vertices_of g))) (R.Refused 21)
+  room_told : (b : Bool) (g : Survey) (n : ℕ) (xs ys : List ℤ) → R.vertices n ≡ pick b (R.vertices (length (vertices_of g))) (R.refused 21)
       → xs ≡ pick b (survey_runs g).xs no_ticks → ys ≡ pick b (survey_runs g).ys no_ticks → kerbed_job j n (kerb_runs xs ys) ≡ kerbed_job j (length (vertices_of g)) (survey_runs g)
   room_told true g n xs ys e p q =
       let z : n ≡ length (vertices_of g) = cc in
       ap (λ (m : ℕ). kerbed_job j m (kerb_runs xs ys)) z ∙ (λ i. kerbed_job j (length (vertices_of g)) (kerb_runs (p i) (q i)))
   room_told false g n xs ys e p q = clash cc
 
-  survey_read_lem : (x : Read Survey) (n : ℕ) (xs ys : List ℤ) → R.Vertices n ≡ kerb_answer x no_ticks no_ticks
+  survey_read_lem : (x : Read Survey) (n : ℕ) (xs ys : List ℤ) → R.vertices n ≡ kerb_answer x no_ticks no_ticks
       → xs ≡ ticks_in x east_ticks no_ticks no_ticks no_ticks → ys ≡ ticks_in x north_ticks no_ticks no_ticks no_ticks → kerbed_job j n (kerb_runs xs ys) ≡ kerbed_survey j x
   survey_read_lem (got g e) n xs ys k p q = room_told (room_in (length (vertices_of g)) no_ticks no_ticks) g n xs ys k p q
   survey_read_lem (refused m b) n xs ys k p q = clash cc
 
-  refused_told : (b : Bool) (g : Survey) (n p : ℕ) → R.RefusedAt n p ≡ pick b (R.Vertices (length (vertices_of g))) (R.Refused 21) → ⊥
+  refused_told : (b : Bool) (g : Survey) (n p : ℕ) → R.refused_at n p ≡ pick b (R.vertices (length (vertices_of g))) (R.refused 21) → ⊥
   refused_told true g n p e = clash cc
   refused_told false g n p e = clash cc
 
   -- a run of 500 entries has room for every kerb
-  no_room : (b : Bool) (g : Survey) (n : ℕ) → b ≡ true → R.Refused n ≡ pick b (R.Vertices (length (vertices_of g))) (R.Refused 21) → ⊥
+  no_room : (b : Bool) (g : Survey) (n : ℕ) → b ≡ true → R.refused n ≡ pick b (R.vertices (length (vertices_of g))) (R.refused 21) → ⊥
   no_room true g n h e = clash cc
   no_room false g n h e = clash cc
 
-  pub survey_fits : (s : List ℕ) (x : Read Survey) → read_geometry s ≡ x → (n : ℕ) → R.Refused n ≡ kerb_answer x no_ticks no_ticks → ⊥
+  pub survey_fits : (s : List ℕ) (x : Read Survey) → read_geometry s ≡ x → (n : ℕ) → R.refused n ≡ kerb_answer x no_ticks no_ticks → ⊥
   unfolding no_ticks
   survey_fits s (got g e) q n k =
       let w = read_within_lem s g e q in
@@ -94,7 +91,7 @@ bytes_so (K.Stopped n u s) h k = h
 bytes_so (K.Refused n p) h k = absurd (k n p refl)
 
 module _ (j : Job) (sound : judge j ≡ 0) (g : List ℕ) where
-  pub read_told : (n : ℕ) (xs ys : List ℤ) (r : Kerbed) → KerbEnsures g no_ticks no_ticks (R.Vertices n) xs ys → JobEnsures j n (kerb_runs xs ys) r → SurveyEnsures j g r
+  pub read_told : (n : ℕ) (xs ys : List ℤ) (r : Kerbed) → KerbEnsures g no_ticks no_ticks (Ok n) xs ys → JobEnsures j n (kerb_runs xs ys) r → SurveyEnsures j g r
   read_told n xs ys r k t =
       let p = read_passes_lem g no_ticks no_ticks n xs ys k in
       record {
@@ -102,10 +99,10 @@ module _ (j : Job) (sound : judge j ≡ 0) (g : List ℕ) where
         ranges = bytes_so r t.ranges (λ m q e. job_passes j sound n (kerb_runs xs ys) p.0 p.1 m q (sym t.answer ∙ e));
       }
 
-  pub refused_told_so : (n p : ℕ) → R.RefusedAt n p ≡ kerb_answer (read_geometry g) no_ticks no_ticks → SurveyEnsures j g (K.Refused n p)
+  pub refused_told_so : (n p : ℕ) → R.refused_at n p ≡ kerb_answer (read_geometry g) no_ticks no_ticks → SurveyEnsures j g (K.Refused n p)
   refused_told_so n p k = by (read_geometry g) refl k
     where
-      by : (x : Read Survey) → read_geometry g ≡ x → R.RefusedAt n p ≡ kerb_answer x no_ticks no_ticks → SurveyEnsures j g (K.Refused n p)
+      by : (x : Read Survey) → read_geometry g ≡ x → R.refused_at n p ≡ kerb_answer x no_ticks no_ticks → SurveyEnsures j g (K.Refused n p)
       by (got v e) q z = absurd (refused_told j (room_in (length (vertices_of v)) no_ticks no_ticks) v n p z)
       by (refused m b) q z =
           let y : (m ≡ n) × (b ≡ p) = (cc, cc) in
@@ -114,30 +111,25 @@ module _ (j : Job) (sound : judge j ≡ 0) (g : List ℕ) where
 
 -- ---- a job that was read
 
-module _ (s : List ℕ) (read : JobRead) (k : ReadEnsures s read) where
-  pub faultless : read.answer ≡ A.Accepted → Faultless read.job
-  faultless a = let e = accepted (read_job s) read k.answer a in record { judged = (read_written s read.job e.0 k.bytes e.1).judged }
+module _ (s : List ℕ) (j : Job) (k : ReadEnsures s (Ok j)) where
+  pub faultless : Faultless j
+  faultless = record { judged = (read_written s j (length s) k.bytes (sym k.answer)).judged }
 
-  pub ticks_told_lem : read.answer ≡ A.Accepted → (n : ℕ) (kerb : KerbRuns) (r : Kerbed) → JobEnsures read.job n kerb r → TicksEnsures s n kerb r
-  ticks_told_lem a n kerb r t =
-      let e = accepted (read_job s) read k.answer a in
-      record { answer = t.answer ∙ ap (λ (x : Read Job). kerbed_ticks x n kerb) (sym e.1); ranges = t.ranges }
+  pub ticks_told_lem : (n : ℕ) (kerb : KerbRuns) (r : Kerbed) → JobEnsures j n kerb r → TicksEnsures s n kerb r
+  ticks_told_lem n kerb r t = record { answer = t.answer ∙ ap (λ (x : Read Job). kerbed_ticks x n kerb) k.answer; ranges = t.ranges }
 
-  pub ticks_refused : (m p : ℕ) → read.answer ≡ A.Refused m p → (n : ℕ) (kerb : KerbRuns) → TicksEnsures s n kerb (K.Refused m p)
-  ticks_refused m p a n kerb =
-      let e = refused_by (read_job s) read m p k.answer a in
-      let h = refused_so s m p e in
-      record { answer = ap (λ (x : Read Job). kerbed_ticks x n kerb) (sym e); ranges = inl (h.number.0, h.number.1, h.near) }
-
-  pub geometry_told : read.answer ≡ A.Accepted → (g : List ℕ) (r : Kerbed) → SurveyEnsures read.job g r → KerbedEnsures s g r
+  pub geometry_told : (g : List ℕ) (r : Kerbed) → SurveyEnsures j g r → KerbedEnsures s g r
   unfolding kerbed_of
-  geometry_told a g r t =
-      let e = accepted (read_job s) read k.answer a in
-      record { answer = t.answer ∙ ap (λ (x : Read Job). kerbed_read x (read_geometry g)) (sym e.1); ranges = t.ranges }
+  geometry_told g r t = record { answer = t.answer ∙ ap (λ (x : Read Job). kerbed_read x (read_geometry g)) k.answer; ranges = t.ranges }
 
-  pub geometry_refused : (m p : ℕ) → read.answer ≡ A.Refused m p → (g : List ℕ) → KerbedEnsures s g (K.Refused m p)
+module _ (s : List ℕ) (f : Refusal) (k : ReadEnsures s (Err f)) where
+  pub ticks_refused : (n : ℕ) (kerb : KerbRuns) → TicksEnsures s n kerb (K.Refused (number_of f.fault) f.place)
+  ticks_refused n kerb =
+      let h = refused_so s (number_of f.fault) f.place (sym k.answer) in
+      record { answer = ap (λ (x : Read Job). kerbed_ticks x n kerb) k.answer; ranges = inl (h.number.0, h.number.1, h.near) }
+
+  pub geometry_refused : (g : List ℕ) → KerbedEnsures s g (K.Refused (number_of f.fault) f.place)
   unfolding kerbed_of
-  geometry_refused m p a g =
-      let e = refused_by (read_job s) read m p k.answer a in
-      let h = refused_so s m p e in
-      record { answer = ap (λ (x : Read Job). kerbed_read x (read_geometry g)) (sym e); ranges = inl (h.number.0, h.number.1, h.near) }
+  geometry_refused g =
+      let h = refused_so s (number_of f.fault) f.place (sym k.answer) in
+      record { answer = ap (λ (x : Read Job). kerbed_read x (read_geometry g)) k.answer; ranges = inl (h.number.0, h.number.1, h.near) }

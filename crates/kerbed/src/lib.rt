@@ -2,7 +2,8 @@
 #![tactic(auto)]
 
 ghost use Rattle.std.specs.Prelude.{◌≡◌};
-ghost use Rattle.path.specs.Laying.{path_runs};
+ghost use Rattle.refusal.specs.Numbers.{number_of};
+ghost use Rattle.path.specs.Lent.{path_of};
 ghost use Rattle.kerb_line.specs.Kerb.{kerb_runs};
 ghost use Rattle.kerb_report.specs.Ranges.{ReportEnsures};
 ghost use Rattle.kerbed.specs.Kerbed.{report_told, placed_rig};
@@ -11,10 +12,10 @@ ghost use Rattle.kerbed.specs.Inner.{Placeable, Faultless, JobEnsures, SurveyEns
 ghost use Rattle.kerbed.specs.Claims.{FirstBytes, ReadPasses};
 
 use job::Job;
-use job_reader::ReadAnswer;
-use kerb_reader::KerbRead;
+use kerb_reader::KerbRefusal;
 use kerb_report::KerbReport;
-use path::Laid;
+use path::{Path, PathRoom};
+use refusal::{Fault, Refusal};
 
 // No touch; the first step that touches and its lowest point; stopped at a step, with the refusal, the unit and the step; or refused, with the byte where the field starts (0 beside 21 and 26).
 #[derive(Clone, Copy)]
@@ -40,24 +41,21 @@ fn report_told(report: KerbReport) -> Kerbed
 fn placed_report(
     j: Job,
     asked: usize,
-    xs: &[i32],
-    ys: &[i32],
-    gxs: &[i32],
-    gys: &[i32],
+    path: Path,
     n: usize,
     kerb_xs: &[i32],
     kerb_ys: &[i32],
 ) -> KerbReport
-    requires { Placeable j asked (path_runs xs.now ys.now gxs.now gys.now) }
-    ensures { ReportEnsures (placed_rig j (path_runs xs.now ys.now gxs.now gys.now)) asked
-        (path_runs xs.now ys.now gxs.now gys.now)
+    requires { Placeable j asked (path_of path) }
+    ensures { ReportEnsures (placed_rig j (path_of path.entry)) asked
+        (path_of path.entry)
         n
         (kerb_runs kerb_xs.now kerb_ys.now)
         result }
 {
+    let Path { xs, ys, gxs, gys } = path;
     let start = walk::tests::station_at(xs, ys, gxs, gys, 0);
-    let heading = start.heading;
-    let w = walk::moving::start(j.vehicle, heading);
+    let w = walk::moving::start(j.vehicle, start.heading);
     kerb_report::report(w, asked, xs, ys, gxs, gys, n, kerb_xs, kerb_ys)
 }
 
@@ -70,24 +68,31 @@ fn report_job(j: Job, n: usize, kerb_xs: &[i32], kerb_ys: &[i32]) -> Kerbed
     let mut ys = [0i32; 2001];
     let mut gxs = [0i32; 2001];
     let mut gys = [0i32; 2001];
-    let laid = path::lay(j, &mut xs, &mut ys, &mut gxs, &mut gys);
-    match laid {
-        Laid::Stations(asked) => report_told(placed_report(
-            j, asked, &xs, &ys, &gxs, &gys, n, kerb_xs, kerb_ys,
-        )),
-        Laid::Refused(number) => Kerbed::Refused(number, 0),
+    let mut room = PathRoom {
+        xs: &mut xs,
+        ys: &mut ys,
+        gxs: &mut gxs,
+        gys: &mut gys,
+    };
+    match path::lay(j, &mut room) {
+        Ok(asked) => report_told(placed_report(j, asked, room.laid(), n, kerb_xs, kerb_ys)),
+        Err(fault) => Kerbed::Refused(fault.number(), 0),
     }
+}
+
+fn refused_at(refusal: Refusal) -> Kerbed
+    ensures { result ≡ Kerbed.Refused (number_of refusal.fault) refusal.place }
+{
+    Kerbed::Refused(refusal.fault.number(), refusal.place)
 }
 
 // A job's bytes and a kerb's ticks: the job's refusal comes first, then the kerb's, then the walk's.
 pub fn check_ticks(job: &[u8], n: usize, kerb_xs: &[i32], kerb_ys: &[i32]) -> Kerbed
     ensures { TicksEnsures job.now n (kerb_runs kerb_xs.now kerb_ys.now) result }
 {
-    let read = job_reader::read_job(job);
-    let answer = read.answer;
-    match answer {
-        ReadAnswer::Accepted => report_job(read.job, n, kerb_xs, kerb_ys),
-        ReadAnswer::Refused(number, place) => Kerbed::Refused(number, place),
+    match job_reader::read_job(job) {
+        Ok(j) => report_job(j, n, kerb_xs, kerb_ys),
+        Err(refusal) => refused_at(refusal),
     }
 }
 
@@ -98,11 +103,10 @@ fn survey_job(j: Job, geometry: &[u8]) -> Kerbed
 {
     let mut xs = [0i32; 500];
     let mut ys = [0i32; 500];
-    let kerb = kerb_reader::read_kerb(geometry, &mut xs, &mut ys);
-    match kerb {
-        KerbRead::Vertices(n) => report_job(j, n, &xs, &ys),
-        KerbRead::RefusedAt(number, place) => Kerbed::Refused(number, place),
-        KerbRead::Refused(number) => Kerbed::Refused(number, 0),
+    match kerb_reader::read_kerb(geometry, &mut xs, &mut ys) {
+        Ok(n) => report_job(j, n, &xs, &ys),
+        Err(KerbRefusal::Field(refusal)) => refused_at(refusal),
+        Err(KerbRefusal::NoRoom) => Kerbed::Refused(Fault::RunTooShort.number(), 0),
     }
 }
 
@@ -110,11 +114,9 @@ fn survey_job(j: Job, geometry: &[u8]) -> Kerbed
 pub fn check_geometry(job: &[u8], geometry: &[u8]) -> Kerbed
     ensures { KerbedEnsures job.now geometry.now result }
 {
-    let read = job_reader::read_job(job);
-    let answer = read.answer;
-    match answer {
-        ReadAnswer::Accepted => survey_job(read.job, geometry),
-        ReadAnswer::Refused(number, place) => Kerbed::Refused(number, place),
+    match job_reader::read_job(job) {
+        Ok(j) => survey_job(j, geometry),
+        Err(refusal) => refused_at(refusal),
     }
 }
 

@@ -33,7 +33,7 @@ use Rattle.entries.specs.Lists.{settings_told}
 use Rattle.entries.proofs.BareLaws.{sweep_bare, settings_bare}
 use Rattle.kerb_line.specs.Kerb.{KerbRuns}
 use Rattle.kerb_reader.specs.declared.Survey.{Survey}
-use Rattle.kerb_reader.specs.declared.KerbRead.TheVariants as K
+use Rattle.kerb_reader.specs.Answers as K
 use Rattle.kerb_reader.specs.Geometry.{vertices_of, read_geometry}
 use Rattle.kerb_reader.specs.Ticks.{room_in, east_ticks, north_ticks, kerb_answer, ticks_in}
 use Rattle.kerbed.specs.Kerbed.{kerbed_ticks}
@@ -118,7 +118,7 @@ module _ (a : ℕ) (h : a ≡ 0 → ⊥) (k : KerbRuns) where
   ticks_kept (refused n p) t ticks run = refl
   ticks_kept (got g e) t ticks run = by (room_in (length (vertices_of g)) k.xs k.ys) t
     where
-      by : (b : Bool) → ReadApart a (pick b (K.Vertices (length (vertices_of g))) (K.Refused 21)) → pick b (sets run 0 (ticks g)) run ≡ run
+      by : (b : Bool) → ReadApart a (pick b (K.vertices (length (vertices_of g))) (K.refused 21)) → pick b (sets run 0 (ticks g)) run ≡ run
       by true t = absurd (h t)
       by false t = refl
 

@@ -8,14 +8,16 @@ use native.Mathlib.Omega.{arith}
 use borrow.Author.Tests.{le-leb, lt-leb}
 use lib.ListN.{length}
 use lib.IntN.{ℤ}
+use Rattle.std.specs.Prelude.{Result}
 use Rattle.number.specs.Read.{Read, got, refused, pick}
 use Rattle.job_reader.specs.Record.{read_job}
 use Rattle.answer_run.specs.Answers.{TellEnsures}
 use Rattle.answer_run.proofs.AnswerLaws.{too_short, answered_as}
 use Rattle.kerb_line.specs.Kerb.{KerbRuns, kerb_runs}
 use Rattle.kerb_reader.specs.declared.Survey.{Survey}
-use Rattle.kerb_reader.specs.declared.KerbRead.{KerbRead}
-use Rattle.kerb_reader.specs.declared.KerbRead.TheVariants as R
+use Rattle.kerb_reader.specs.declared.KerbRefusal.{KerbRefusal}
+use Rattle.kerb_reader.specs.Answers.{KerbRead, as_kerb}
+use Rattle.kerb_reader.specs.Answers as R
 use Rattle.kerb_reader.specs.Geometry.{vertices_of, read_geometry}
 use Rattle.kerb_reader.specs.Ticks.{room_in, kerb_answer, KerbEnsures}
 use Rattle.kerb_reader.proofs.Limits.{read_within_lem, count_is}
@@ -26,7 +28,7 @@ use Rattle.kerbed.specs.Kerbed.{kerbed_ticks}
 use Rattle.kerbed.specs.Ranges.{KerbedSo, TicksEnsures}
 use Rattle.kerb_told.specs.Entries.{ticks_told, touch_told}
 use Rattle.kerb_told.specs.Inner.{KerbedFits, ReadFits}
-use Rattle.turning.specs.Kerbs.{ReadApart, ticks_left, TicksCalled, TouchApart, TouchCalled}
+use Rattle.turning.specs.Kerbs.{ReadApart, TicksCalled, TouchApart, TouchCalled}
 use Rattle.turning.proofs.CallLaws.{byte_apart, unit_apart}
 
 -- ---- a report
@@ -66,7 +68,7 @@ module _ (g : List ℕ) (k : KerbRuns) where
   read_apart : (x : Read Survey) → read_geometry g ≡ x → ReadApart (ticks_told (kerb_answer x k.xs k.ys)).number (kerb_answer x k.xs k.ys)
   read_apart (got v e) q = by (room_in (length (vertices_of v)) k.xs k.ys)
     where
-      by : (b : Bool) → let a = pick b (R.Vertices (length (vertices_of v))) (R.Refused 21) in ReadApart (ticks_told a).number a
+      by : (b : Bool) → let a = pick b (R.vertices (length (vertices_of v))) (R.refused 21) in ReadApart (ticks_told a).number a
       by true = refl
       by false = refl
   read_apart (refused n p) q =
@@ -81,7 +83,7 @@ module _ (g : List ℕ) (k : KerbRuns) where
   pub read_fits : (x : Read Survey) → read_geometry g ≡ x → ReadFits (kerb_answer x k.xs k.ys)
   read_fits (got v e) q = by (room_in (length (vertices_of v)) k.xs k.ys)
     where
-      by : (b : Bool) → ReadFits (pick b (R.Vertices (length (vertices_of v))) (R.Refused 21))
+      by : (b : Bool) → ReadFits (pick b (R.vertices (length (vertices_of v))) (R.refused 21))
       by true = let w = read_within_lem g v e q in omega (arith, count_is v w, w.most)
       by false = tt
   read_fits (refused n p) q = record { byte = omega (arith, (first_bytes_lem.place g n p q).0) }
@@ -92,9 +94,10 @@ module _ (g : List ℕ) (k : KerbRuns) where
         let e = lt-leb 1 (length before) h in
         record { told = too_short 1 (ticks_told (kerb_answer (read_geometry g) k.xs k.ys)) before h; apart = λ x. absurd (omega arith); ticks = rw e refl }
 
-    pub ticks_called : 1 ≤ length before → (a : KerbRead) (xs ys : List ℤ) → KerbEnsures g k.xs k.ys a xs ys → (m : ℕ) (after : List ℤ) → TellEnsures (ticks_told a) before m after
+    pub ticks_called : 1 ≤ length before → (r : Result ℕ KerbRefusal) (xs ys : List ℤ) → KerbEnsures g k.xs k.ys r xs ys → (m : ℕ) (after : List ℤ) → TellEnsures (ticks_told (as_kerb r)) before m after
         → TicksCalled g k before m (kerb_runs xs ys) after
-    ticks_called h a xs ys t m after u =
+    ticks_called h r xs ys t m after u =
+        let a = as_kerb r in
         let e = le-leb 1 (length before) h in
         let p = t.east in
         let q = t.north in

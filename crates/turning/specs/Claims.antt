@@ -1,7 +1,8 @@
 -- The claim about the functions open to C and Rust, over what each ensures.
 use Rattle.std.specs.Prelude.{ℕ, ◌≤◌, ◌≡◌, List, ℤ}
-use Rattle.heading.specs.declared.PathTurn.{PathTurn}
-use Rattle.unit.specs.declared.UnitTurn.{UnitTurn}
+use Rattle.refusal.specs.Numbers.{Answer}
+use Rattle.plane.specs.declared.Vec2.{Vec2}
+use Rattle.heading.specs.declared.Advance.{Advance}
 use Rattle.path.specs.Laying.{PathRuns}
 use Rattle.reaches.specs.Cells.{Reaches}
 use Rattle.bogie.specs.Settings.{Rail}
@@ -26,8 +27,8 @@ pub record RefusalWritesNothing : Type 0 where
   pub sweep : (s : List ℕ) (before : List ℤ) (a : ℕ) (after : List ℤ) → SweepCalled s before a after → (a ≡ 0 → ⊥) → after ≡ before
   pub run : (s : List ℕ) (p : PathRuns) (r : Reaches) (before : List ℤ) (a : ℕ) (p' : PathRuns) (r' : Reaches) (after : List ℤ)
       → RunCalled s p r before a p' r' after → (a ≡ 0 → ⊥) → after ≡ before
-  pub path_turn_lem : (t : PathTurn) (before : List ℤ) (n : ℕ) (after : List ℤ) → Answered 4 (path_told t) before n after → (n ≡ 0 → ⊥) → after ≡ before
-  pub unit_turn_lem : (t : UnitTurn) (before : List ℤ) (n : ℕ) (after : List ℤ) → Answered 2 (unit_told t) before n after → (n ≡ 0 → ⊥) → after ≡ before
+  pub path_turn_lem : (t : Answer Advance) (before : List ℤ) (n : ℕ) (after : List ℤ) → Answered 4 (path_told t) before n after → (n ≡ 0 → ⊥) → after ≡ before
+  pub unit_turn_lem : (t : Answer Vec2) (before : List ℤ) (n : ℕ) (after : List ℤ) → Answered 2 (unit_told t) before n after → (n ≡ 0 → ⊥) → after ≡ before
   -- and none of the seven runs where it is refused before the walk begins
   pub seven_runs : (s : List ℕ) (p : PathRuns) (r : Reaches) (before : List ℤ) (a : ℕ) (p' : PathRuns) (r' : Reaches) (after : List ℤ)
       → RunCalled s p r before a p' r' after → (a ≡ 0 → ⊥) → BeforeWalk a → (p' ≡ p) × (r' ≡ r)

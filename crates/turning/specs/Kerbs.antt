@@ -4,8 +4,8 @@ use Rattle.number.specs.Read.{pick}
 use Rattle.job_reader.specs.Record.{read_job}
 use Rattle.answer_run.specs.Answers.{Answered}
 use Rattle.kerb_line.specs.Kerb.{KerbRuns, kerb_runs}
-use Rattle.kerb_reader.specs.declared.KerbRead.{KerbRead}
-use Rattle.kerb_reader.specs.declared.KerbRead.TheVariants as R
+use Rattle.kerb_reader.specs.Answers.{KerbRead}
+use Rattle.kerb_reader.specs.Answers as R
 use Rattle.kerb_reader.specs.Geometry.{read_geometry}
 use Rattle.kerb_reader.specs.Ticks.{east_ticks, north_ticks, kerb_answer, ticks_in}
 use Rattle.kerbed.specs.declared.Kerbed.{Kerbed}
@@ -24,9 +24,9 @@ pub record GeometryTold (a n p : ℕ) : Type 0 where
 
 -- the number answered tells which answer it was, and what stands beside a refusal
 abbrev pub ReadApart : ℕ → KerbRead → Type 0
-ReadApart a (R.Vertices n) = a ≡ 0
-ReadApart a (R.RefusedAt n p) = GeometryTold a n p
-ReadApart a (R.Refused n) = a ≡ 21
+ReadApart a (R.vertices n) = a ≡ 0
+ReadApart a (R.refused_at n p) = GeometryTold a n p
+ReadApart a (R.refused n) = a ≡ 21
 
 -- the runs after reading the geometry g
 abbrev pub ticks_left : List ℕ → KerbRuns → KerbRuns

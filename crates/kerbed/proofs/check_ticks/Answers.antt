@@ -3,10 +3,10 @@ use Rattle.kerbed.proofs.SurveyLaws.{faultless, ticks_told_lem, ticks_refused}
 use Rattle.kerbed.proofs.check_ticks.Goals as goal
 
 pub report_job-requires : goal.report_job-requires
-report_job-requires c = let r = c.before.before.before in faultless r.args.job.now r.read_job-read.result r.read_job-read.ensures c.in-Accepted.is
+report_job-requires c = faultless c.args.job.now c.in-Ok.j c.in-Ok.ensures
 
-pub returns-in-Accepted : goal.returns-in-Accepted
-returns-in-Accepted c = let t = c.before.before.before in let r = t.before in ticks_told_lem r.args.job.now r.read_job-read.result r.read_job-read.ensures t.in-Accepted.is _ _ _ c.report_job.ensures
+pub returns-in-Ok : goal.returns-in-Ok
+returns-in-Ok c = ticks_told_lem c.args.job.now c.in-Ok.j c.in-Ok.ensures _ _ _ c.report_job.ensures
 
-pub returns-in-Refused : goal.returns-in-Refused
-returns-in-Refused c = let r = c.before.before in ticks_refused r.args.job.now r.read_job-read.result r.read_job-read.ensures _ _ c.in-Refused.is _ _
+pub returns-in-Err : goal.returns-in-Err
+returns-in-Err c = rw c.refused_at.ensures (ticks_refused c.args.job.now c.in-Err.refusal c.in-Err.ensures _ _)

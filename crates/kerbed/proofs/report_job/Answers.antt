@@ -1,35 +1,25 @@
 -- `kerbed::report_job` meets its contract.
-use mathlib.Core.Path.{◌≡◌, subst}
-use Rattle.path.specs.declared.Laid.{Laid}
-use Rattle.path.specs.Laying.{PathRuns, path_runs, LayEnsures}
+use mathlib.Core.Path.{sym, subst}
+use Rattle.std.specs.Prelude.{Ok}
+use Rattle.path.specs.Laying.{LayEnsures}
 use Rattle.swept.specs.Swept.{empty_path}
 use Rattle.kerbed.proofs.KerbedLaws.{laid_not_refused, placeable, job_told}
 use Rattle.kerbed.proofs.report_job.Goals as goal
-use Rattle.kerbed.proofs.report_job.Goals.{After-lay-laid, Start}
-
--- laid in runs of zeros
-module _ (c : After-lay-laid) where
-  abbrev start : Start
-  start = c.before.before.before.before.before
-
-  abbrev laid : PathRuns
-  laid = path_runs c.lay-laid.new.xs c.lay-laid.new.ys c.lay-laid.new.gxs c.lay-laid.new.gys
-
-  answered : (a : Laid) → c.lay-laid.result ≡ a → LayEnsures start.args.j empty_path a laid
-  unfolding empty_path
-  answered a e = subst (λ (x : Laid). LayEnsures start.args.j empty_path x laid) e c.lay-laid.ensures
 
 pub placed_report-requires : goal.placed_report-requires
-placed_report-requires c = let k = c.before.before.before.before in
-    let l = k.before.before.before.before.before in
-    placeable _ (start l).requires.judged _ _ (answered l _ k.in-Stations.is)
+unfolding empty_path
+placed_report-requires c =
+    let j = c.args.j in
+    let n = c.in-Ok.asked in
+    placeable j c.requires.judged n _ (subst (LayEnsures j empty_path (Ok n)) (sym c.laid.ensures) c.in-Ok.ensures.laid)
 
-pub returns-in-Stations : goal.returns-in-Stations
-returns-in-Stations c = let k = c.before.before.before.before.before.before in
-    let l = k.before.before.before.before.before in
-    job_told _ (start l).requires.judged _ _ (answered l _ k.in-Stations.is) _ _ _ _ c.placed_report.ensures c.report_told.ensures
+pub returns-in-Ok : goal.returns-in-Ok
+unfolding empty_path
+returns-in-Ok c =
+    let j = c.args.j in
+    let n = c.in-Ok.asked in
+    job_told j c.requires.judged n _ (subst (LayEnsures j empty_path (Ok n)) (sym c.laid.ensures) c.in-Ok.ensures.laid) _ _ _ _ c.placed_report.ensures c.report_told.ensures
 
-pub returns-in-Refused : goal.returns-in-Refused
-returns-in-Refused c = let k = c in
-    let l = k.before.before.before.before.before in
-    absurd (laid_not_refused _ (start l).requires.judged _ _ (answered l _ k.in-Refused.is))
+pub returns-in-Err : goal.returns-in-Err
+unfolding empty_path
+returns-in-Err c = absurd (laid_not_refused c.args.j c.requires.judged c.in-Err.fault _ c.in-Err.ensures.laid)

@@ -1,42 +1,30 @@
 -- `kerbed::survey_job` meets its contract.
-use Rattle.kerbed.proofs.SurveyLaws.{read_told, refused_told_so, survey_fits}
-use mathlib.Core.Path.{refl, sym, ◌∙◌, subst}
+use mathlib.Core.Path.{refl, sym, ◌∙◌, ap}
+use Rattle.std.specs.Prelude.{Err}
+use Rattle.refusal.specs.Numbers.{number_of}
+use Rattle.kerb_reader.specs.declared.KerbRefusal.{KerbRefusal}
+use Rattle.kerb_reader.specs.Answers.{as_kerb}
 use Rattle.kerb_reader.specs.Geometry.{read_geometry}
-use Rattle.kerb_reader.specs.declared.KerbRead.{KerbRead}
-use Rattle.kerb_reader.specs.Ticks.{KerbEnsures}
 use Rattle.kerbed.specs.Kerbed.{no_ticks}
+use Rattle.kerbed.proofs.SurveyLaws.{read_told, refused_told_so, survey_fits}
 use Rattle.kerbed.proofs.survey_job.Goals as goal
-use Rattle.kerbed.proofs.survey_job.Goals.{Start}
-use Rattle.kerbed.proofs.survey_job.Lts as lts
-use Rattle.kerbed.proofs.survey_job.Reads as reads
-use Rattle.kerbed.proofs.survey_job.Tie as tie
 
--- the steps of the code that the lemmas below speak of
-abbrev After-read_kerb-kerb : Type 0
-After-read_kerb-kerb = lts.After-read_kerb tie.the-claims reads.Pre reads.Post
-
-abbrev start : After-read_kerb-kerb → Start
-start c = c.before.before.before.before
-
-pub returns-in-Vertices : goal.returns-in-Vertices
+pub returns-in-Ok : goal.returns-in-Ok
 unfolding no_ticks
-returns-in-Vertices c = let k = c.before.before.before.before in
-    let r = k.before.before.before in
-    let s = start r in
-    let xs = r.read_kerb-kerb.new.xs in
-    let ys = r.read_kerb-kerb.new.ys in
-    read_told s.args.j s.requires.judged s.args.geometry.now _ xs ys _ (subst (λ (x : KerbRead). KerbEnsures s.args.geometry.now no_ticks no_ticks x xs ys) k.in-Vertices.is r.read_kerb-kerb.ensures) c.report_job.ensures
+returns-in-Ok c =
+    let a = c.args in
+    let q = c.read_kerb.new in
+    read_told a.j c.requires.judged a.geometry.now _ q.xs q.ys _ c.in-Ok.ensures c.report_job.ensures
 
-pub returns-in-RefusedAt : goal.returns-in-RefusedAt
+pub returns-in-Err-Field : goal.returns-in-Err-Field
 unfolding no_ticks
-returns-in-RefusedAt c = let k = c.before in
-    let r = k.before.before.before in
-    let s = start r in
-    refused_told_so s.args.j s.requires.judged s.args.geometry.now _ _ (sym k.in-RefusedAt.is ∙ r.read_kerb-kerb.ensures.answer)
+returns-in-Err-Field c =
+    let a = c.args in
+    let r = c.in-Err-Field in
+    rw (c.refused_at.ensures, r.refusal-is) (refused_told_so a.j c.requires.judged a.geometry.now (number_of r.refusal.fault) r.refusal.place (ap (λ (x : KerbRefusal). as_kerb (Err x)) (sym r.field-0-is) ∙ c.in-Err-Field.ensures.answer))
 
-pub returns-in-Refused : goal.returns-in-Refused
+pub returns-in-Err-NoRoom : goal.returns-in-Err-NoRoom
 unfolding no_ticks
-returns-in-Refused c = let k = c.before in
-    let r = k.before.before.before in
-    let s = start r in
-    absurd (survey_fits s.args.j s.args.geometry.now (read_geometry s.args.geometry.now) refl _ (sym k.in-Refused.is ∙ r.read_kerb-kerb.ensures.answer))
+returns-in-Err-NoRoom c =
+    let a = c.args in
+    absurd (survey_fits a.j a.geometry.now (read_geometry a.geometry.now) refl 21 (ap (λ (x : KerbRefusal). as_kerb (Err x)) (sym c.in-Err-NoRoom.field-0-is) ∙ c.in-Err-NoRoom.ensures.answer))
