@@ -1,7 +1,7 @@
 -- Any list of calls: one call keeps what the drawn rig has, and the program's answers and records follow it.
-use Prim.Native.Nat.{ℕ, zero, suc, ◌+◌, ◌≤◌}
+use Prim.Native.Nat.{ℕ, zero, suc, ◌≤◌}
 use mathlib.Core.Path.{◌≡◌, refl, sym, ◌∙◌, ap, ap₂}
-use mathlib.Core.Bool.{Bool, true, false, ◌&&◌}
+use mathlib.Core.Bool.{Bool, true, false}
 use mathlib.Core.List.{List, [], ◌∷◌, map}
 use native.Mathlib.Omega.{arith}
 use borrow.Author.Tests.{leb-true}
@@ -9,7 +9,6 @@ use lib.Dec.{leb}
 use Rattle.number.specs.Read.{pick}
 use Rattle.number.proofs.FieldCodec.{both}
 use lib.IntN.{pos, ◌*ℤ◌}
-use Rattle.plane.specs.declared.Vec2.{Vec2}
 use Rattle.plane.specs.Length.{heading_length, Near}
 use Rattle.job.specs.declared.Vehicle.{Vehicle}
 use Rattle.job.specs.Allowed.{between}
@@ -18,13 +17,11 @@ use Rattle.walk.specs.declared.Walk.{Walk}
 use Rattle.walk.specs.Drawn.{Drawn, view, Call, Outcome, outcome_of}
 use Rattle.walk.specs.Tests.{lent, path_lent, reaches_lent, path_sound, vehicle_sound}
 use Rattle.walk.specs.Rig.{Stepped, drawn_start, draw_step}
-use Rattle.reaches.specs.Cells.{Reaches}
-use Rattle.stations.specs.declared.Placing.{Placing}
 use Rattle.stations.specs.declared.PlaceAnswer.TheVariants as P
-use Rattle.stations.specs.Placing.{place_refusal, place_answer, unless_refused, start_heading, PlaceEnsures}
+use Rattle.stations.specs.Placing.{place_refusal, place_answer, unless_refused, start_heading}
 use Rattle.stations.specs.Stepping.{StepEnsures}
 use Rattle.walk.specs.Rigid.{Keeping}
-use Rattle.claim.specs.DemandThree.{drawn_answers, drawn_end, Turn, Chain, last_record, Always, Walked, DemandThree}
+use Rattle.claim.specs.DemandThree.{drawn_answers, drawn_end, Turn, Chain, last_record, Always, DemandThree}
 use Rattle.walk.proofs.StartKept.{start_heading_lem}
 use Rattle.walk.proofs.StepKept.{step_rule_lem}
 

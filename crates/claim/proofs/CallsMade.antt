@@ -9,7 +9,7 @@ use Rattle.number.specs.Read.{pick}
 use Rattle.job.specs.declared.Job.{Job}
 use Rattle.job.specs.declared.Vehicle.{Vehicle}
 use Rattle.path.specs.Stations.{stations}
-use Rattle.path.specs.Laying.{PathRuns, lay_answer, laid_runs}
+use Rattle.path.specs.Laying.{PathRuns}
 use Rattle.walk.specs.declared.Walk.{Walk}
 use Rattle.walk.specs.declared.StepAnswer.{StepAnswer}
 use Rattle.walk.specs.declared.StepAnswer.TheVariants as S
@@ -25,12 +25,9 @@ use Rattle.stations.proofs.PlaceLaws.{place_refused, place_done}
 use Rattle.stations.specs.declared.PlaceAnswer.TheVariants as P
 use Rattle.run.specs.Run.{ran_over, run_refusal, ran_answer, job_path, job_course}
 use Rattle.claim.specs.DemandThree.{Turn, Chain}
-use Rattle.claim.specs.PremisesMet.{Laying, Placement, JobRun, Handing, handing_of, Calls}
+use Rattle.claim.specs.PremisesMet.{Placement, JobRun, Handing, handing_of, Calls}
 
--- laying, and a whole job
-pub lays : (j : Job) (before : PathRuns) → Laying j before
-lays j before = record { answer = lay_answer j before; after = laid_runs (lay_answer j before) j before; ensured = record { answered = refl; runs = refl } }
-
+-- a whole job
 pub runs_of_lem : (j : Job) (p : PathRuns) (r : Reaches) → JobRun j p r
 runs_of_lem j p r = record {
   answer = ran_answer (run_refusal j p r) (ran_over (length (stations j)) (job_path j p) (job_course j p r));

@@ -1,21 +1,18 @@
 -- A run that is not refused has its calls: the path laid, the vehicle placed, and step calls until one is refused.
 use Prim.Native.Nat.{ℕ, zero, suc, ◌+◌, ◌-◌, ◌≤◌, ◌<◌}
 use mathlib.Core.Path.{◌≡◌, refl, sym, ◌∙◌}
-use mathlib.Core.Bool.{true}
 use mathlib.Core.List.{List, [], ◌∷◌}
 use native.Mathlib.Omega.{arith}
 use native.Mathlib.Decide.{dec_lt}
 use lib.ListN.{length}
-use Rattle.job.specs.Faults.{judge}
-use Rattle.path.specs.declared.Laid.TheVariants as L
+use Rattle.std.specs.Prelude.{Ok}
 use Rattle.path.specs.Stations.{stations}
-use Rattle.path.specs.Laying.{PathRuns, room_for, written, LayEnsures}
+use Rattle.path.specs.Laying.{PathRuns, written, LayEnsures}
 use Rattle.path.proofs.JobLaws.{laid_answered}
 use Rattle.walk.specs.declared.Walk.{Walk}
 use Rattle.walk.specs.Drawn.{view, Call, Outcome, made, refused, refused_at, outcome_of}
-use Rattle.walk.specs.Tests.{reaches_lent, lent}
 use Rattle.walk.specs.Rig.{drawn_start}
-use Rattle.reaches.specs.Cells.{Reaches, lengths_of, cleared}
+use Rattle.reaches.specs.Cells.{Reaches, cleared}
 use Rattle.stations.specs.declared.PlaceAnswer.TheVariants as P
 use Rattle.stations.specs.Placing.{call_of, place_refusal, start_heading}
 use Rattle.stations.specs.Stepping.{if_made, StepEnsures}
@@ -96,9 +93,6 @@ module _ (x : Run) where
   abbrev n : ℕ
   n = length (stations x.job)
 
-  run_passed : run_refusal x.job x.path x.reaches ≡ 0 → (judge x.job ≡ 0) × (room_for n x.path ≡ true) × (reaches_lent n (lengths_of x.reaches) ≡ true)
-  run_passed e = tests_passed x.job x.path x.reaches e
-
   abbrev laid : PathRuns
   laid = written (stations x.job) x.path
 
@@ -113,11 +107,11 @@ module _ (x : Run) where
   turns_there = turns_until n laid (n - 1) start (cleared n x.reaches)
 
   module _ (w : Walk) (none : run_refusal x.job x.path x.reaches ≡ 0) where
-    is_laid : LayEnsures x.job x.path (L.Stations n) laid
-    is_laid = let k = run_passed none in laid_answered x.job x.path k.0 k.1
+    is_laid : LayEnsures x.job x.path (Ok n) laid
+    is_laid = let k = tests_passed x.job x.path x.reaches none in laid_answered x.job x.path k.0 k.1
 
     can_run : Runnable x.job.vehicle call
-    can_run = runnable x.job x.path n laid is_laid x.reaches (run_passed none).2
+    can_run = runnable x.job x.path n laid is_laid x.reaches (tests_passed x.job x.path x.reaches none).2
 
     placed_so : place_refusal x.job.vehicle call ≡ 0
     unfolding place_refusal

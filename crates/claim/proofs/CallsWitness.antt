@@ -34,7 +34,8 @@ use Rattle.run.specs.Run.{run_refusal}
 use Rattle.claim.specs.DemandThree.{Turn}
 use Rattle.claim.specs.WholeRun.{Run}
 use Rattle.claim.specs.PremisesMet.{Handing, turn_answers, WalkAnswering, RunAnswering, PremisesMet}
-use Rattle.claim.proofs.CallsMade.{lays, places, runs_of_lem, record_of, turns_over, over_chain, calls}
+use Rattle.claim.proofs.FaultsNamed.{lays}
+use Rattle.claim.proofs.CallsMade.{places, runs_of_lem, record_of, turns_over, over_chain, calls}
 use Rattle.claim.proofs.CallsThere.{turns_until, turns_there, calls_there, turns_are, run_calls_lem}
 use Rattle.claim.proofs.RefusedThere.{run_refused_lem}
 

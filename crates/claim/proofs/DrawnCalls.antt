@@ -5,7 +5,7 @@ use mathlib.Core.Bool.{Bool, true, false}
 use Rattle.number.specs.Read.{pick}
 use Rattle.walk.specs.Drawn.{Drawn, Call, made}
 use Rattle.walk.specs.Tests.{lent, path_sound, record_sound, at_last}
-use Rattle.walk.specs.Units.{Turning, turned, stopped}
+use Rattle.walk.specs.Units.{Turning}
 use Rattle.walk.specs.Rig.{turning_of, after_turning, turned_down, draw_step}
 use Rattle.stations.specs.Inner.{Open}
 use Rattle.stations.proofs.StepLaws.{refused_not_made}

@@ -9,11 +9,13 @@ use lib.ListN.{length, get_or, set, length-set, length-map, get_or-map}
 use lib.Seq.{sets, drop-set-lt, map-set_same, get_or-set_other}
 use lib.IntN.{ℤ}
 use lib.Pow.{pow_pos}
+use Rattle.std.specs.Prelude.{Result}
+use Rattle.refusal.specs.Numbers.{Answer}
+use Rattle.refusal.specs.Numbers as N
+use Rattle.refusal.specs.declared.Fault.{Fault}
 use Rattle.job.specs.declared.Job.{Job}
 use Rattle.job.specs.declared.Vehicle.{Vehicle}
 use Rattle.path.specs.declared.Station.{Station}
-use Rattle.path.specs.declared.Laid.{Laid}
-use Rattle.path.specs.declared.Laid.TheVariants as L
 use Rattle.path.specs.Stations.{stations}
 use Rattle.path.specs.Laying.{PathRuns, written, lay_answer, laid_runs, LayEnsures}
 use Rattle.walk.specs.declared.Walk.{Walk}
@@ -188,12 +190,12 @@ written_past ps r = record { xs = by (λ (p : Station). p.position.x) r.xs; ys =
     by : (f : Station → ℤ) (l : List ℤ) → PastKept (length ps) l (sets l 0 (map f ps))
     by f l = sets_past (length ps) (map f ps) l 0 (omega (arith, length-map ps f))
 
-lay_never : (j : Job) (before : PathRuns) (answer : Laid) (after : PathRuns) → LayEnsures j before answer after → PathPastKept (station_count j) before after
+lay_never : (j : Job) (before : PathRuns) (answer : Result ℕ Fault) (after : PathRuns) → LayEnsures j before answer after → PathPastKept (station_count j) before after
 lay_never j before answer after k = subst (PathPastKept (station_count j) before) (sym k.runs) (by (lay_answer j before))
   where
-    by : (a : Laid) → PathPastKept (station_count j) before (laid_runs a j before)
-    by (L.Stations n) = written_past (stations j) before
-    by (L.Refused n) = path_same (station_count j) before
+    by : (a : Answer ℕ) → PathPastKept (station_count j) before (laid_runs a j before)
+    by (N.answered n) = written_past (stations j) before
+    by (N.refused n) = path_same (station_count j) before
 
 -- the walk of a job over its own path
 module _ (j : Job) (p : PathRuns) (r : Reaches) where

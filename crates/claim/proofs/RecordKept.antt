@@ -5,7 +5,6 @@ use mathlib.Core.Bool.{true}
 use mathlib.Core.List.{List, [], ◌∷◌}
 use lib.IntN.{pos, ◌*ℤ◌}
 use Rattle.plane.specs.Length.{heading_length, Near}
-use Rattle.job.specs.declared.Vehicle.{Vehicle}
 use Rattle.path.specs.Laying.{PathRuns}
 use Rattle.walk.specs.declared.Walk.{Walk}
 use Rattle.walk.specs.Drawn.{Drawn, view, Call, station_at, Outcome, made, refused, refused_at, outcome_of}
@@ -15,7 +14,7 @@ use Rattle.walk.proofs.PathTests.{path_station}
 use Rattle.walk.proofs.RecordTests.{lent_call}
 use Rattle.walk.proofs.SoundKept.{start_sound}
 use Rattle.reaches.specs.Cells.{Reaches}
-use Rattle.stations.specs.Placing.{call_of, place_refusal}
+use Rattle.stations.specs.Placing.{place_refusal}
 use Rattle.stations.specs.Stepping.{StepEnsures}
 use Rattle.stations.proofs.StepLaws.{refused_not_made, unit_not_made}
 use Rattle.run.proofs.WalkingLaws.{made_step_lem}

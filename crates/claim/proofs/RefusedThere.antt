@@ -1,16 +1,16 @@
 -- A run that is refused is so by its laying, or by placing over what was laid.
 use Prim.Native.Nat.{ℕ, zero, suc}
-use mathlib.Core.Path.{◌≡◌, refl, sym, ◌∙◌, ap, subst}
+use mathlib.Core.Path.{◌≡◌, refl, sym, ◌∙◌, ap}
 use mathlib.Core.Bool.{Bool, true, false, ◌&&◌, and-false}
 use native.Mathlib.Omega.{arith}
 use borrow.Author.Tests.{eqb-true}
 use lib.Dec.{eqb}
 use lib.ListN.{length}
+use Rattle.refusal.specs.declared.Fault.TheVariants as F
 use Rattle.number.specs.Read.{pick}
 use Rattle.job.specs.Faults.{judge}
-use Rattle.path.specs.declared.Laid.TheVariants as L
 use Rattle.path.specs.Stations.{stations}
-use Rattle.path.specs.Laying.{PathRuns, room_for, written, LayEnsures}
+use Rattle.path.specs.Laying.{PathRuns, room_for, written}
 use Rattle.path.proofs.JobLaws.{fault_answered, no_room_answered, laid_answered}
 use Rattle.walk.specs.declared.Walk.{Walk}
 use Rattle.walk.specs.Drawn.{Outcome, made, refused, refused_at}
@@ -25,6 +25,7 @@ use Rattle.run.specs.Walking.{Course}
 use Rattle.run.specs.Run.{ran_by, ran_over, run_refusal, ran_answer, job_path, job_course}
 use Rattle.claim.specs.WholeRun.{Run, Ensured}
 use Rattle.claim.specs.PremisesMet.{RunRefused, not_laid, not_placed}
+use Rattle.claim.proofs.FaultsNamed.{Named, none, named, judge_named}
 
 -- the number answered is the refusal's
 answered_by_lem : (m k : ℕ) (a b : Ran) → a ≡ ran_answer k b → a ≡ R.Refused m → ((i : ℕ) → b ≡ R.Refused i → ⊥) → (k ≡ m) × (m ≡ 0 → ⊥)
@@ -51,11 +52,15 @@ module _ (x : Run) (w : Walk) where
   unfolding place_refusal lent
   short_refused e = rw (e, and-false (path_lent count lay)) refl
 
+  fault_refused : (m : ℕ) → Named (judge x.job) → judge x.job ≡ m → (m ≡ 0 → ⊥) → RunRefused x w m
+  fault_refused m (none z) e h = absurd (h (sym e ∙ z))
+  fault_refused m (named f n) e h = not_laid f x.path (fault_answered x.job x.path f n (λ z. h (sym e ∙ z))) (n ∙ e)
+
   refused_by : (a b c : Bool) (m : ℕ) → eqb (judge x.job) 0 ≡ a → room_for count x.path ≡ b → reaches_lent count (lengths_of x.reaches) ≡ c
       → pick a (pick (b && c) 0 21) (judge x.job) ≡ m → (m ≡ 0 → ⊥) → RunRefused x w m
-  refused_by false b c m f p r e h = not_laid x.path (subst (λ (k : ℕ). LayEnsures x.job x.path (L.Refused k) x.path) e (fault_answered x.job x.path (λ z. h (sym e ∙ z))))
+  refused_by false b c m f p r e h = fault_refused m (judge_named x.job) e h
   refused_by true false c m f p r e h =
-      not_laid x.path (subst (λ (k : ℕ). LayEnsures x.job x.path (L.Refused k) x.path) e (no_room_answered x.job x.path (eqb-true (judge x.job) 0 f) p))
+      not_laid F.RunTooShort x.path (no_room_answered x.job x.path (eqb-true (judge x.job) 0 f) p) e
   refused_by true true false m f p r e h =
       not_placed count lay (record { answer = P.Refused 21; walk = w }) x.reaches (laid_answered x.job x.path (eqb-true (judge x.job) 0 f) p)
       (place_refused x.job.vehicle w (call_of count lay x.reaches) x.reaches 21 (short_refused r) (λ z. omega arith)) (ap (λ (k : ℕ). P.Refused k) e)

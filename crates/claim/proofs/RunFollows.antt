@@ -1,7 +1,6 @@
 -- Step calls until one is refused, against the walk to the end of the path.
-use Prim.Native.Nat.{ℕ, zero, suc, ◌+◌, ◌-◌, ◌≤◌, ◌<◌}
-use mathlib.Core.Path.{◌≡◌, refl, sym, ◌∙◌, ap, ap₂, subst}
-use mathlib.Core.Bool.{true, false}
+use Prim.Native.Nat.{ℕ, ◌+◌, ◌≤◌, ◌<◌}
+use mathlib.Core.Path.{◌≡◌, refl, sym, ◌∙◌, ap, subst}
 use mathlib.Core.List.{List, [], ◌∷◌}
 use native.Mathlib.Omega.{arith}
 use native.Mathlib.Decide.{dec_lt}
@@ -9,9 +8,7 @@ use borrow.Author.Tests.{le-leb}
 use lib.ListN.{length}
 use Rattle.path.specs.Laying.{PathRuns}
 use Rattle.walk.specs.declared.Walk.{Walk}
-use Rattle.walk.specs.declared.Advanced.{Advanced}
-use Rattle.walk.specs.Drawn.{Drawn, view, Call, Outcome, made, refused, refused_at, outcome_of}
-use Rattle.walk.specs.Tests.{lent, path_sound, record_sound, at_last}
+use Rattle.walk.specs.Drawn.{view, Call, Outcome, made, refused, refused_at, outcome_of}
 use Rattle.walk.specs.Units.{Turning, turned, stopped}
 use Rattle.walk.specs.Rig.{Stepped, turning_of, after_turning, turned_down, draw_step}
 use Rattle.reaches.specs.Cells.{Reaches}

@@ -2,11 +2,15 @@
 use Prim.Native.Nat.{ℕ, zero, suc, ◌+◌, ◌-◌}
 use mathlib.Core.Path.{◌≡◌, refl, sym, ◌∙◌, ap, subst}
 use mathlib.Core.Bool.{Bool, true, false, ◌&&◌}
-use mathlib.Core.List.{List, [], ◌∷◌}
+use mathlib.Core.List.{List}
 use native.Mathlib.Omega.{arith}
 use borrow.Author.Tests.{eq-eqb}
 use lib.Dec.{eqb}
 use lib.ListN.{length}
+use Rattle.std.specs.Prelude.{Ok, Err}
+use Rattle.refusal.specs.Numbers.{number_of}
+use Rattle.refusal.specs.Numbers as N
+use Rattle.refusal.specs.declared.Fault.{Fault}
 use Rattle.number.specs.Read.{pick}
 use Rattle.number.proofs.FieldCodec.{both, and}
 use Rattle.job.specs.declared.Job.{Job}
@@ -14,34 +18,29 @@ use Rattle.job.specs.declared.Vehicle.{Vehicle}
 use Rattle.marks.specs.Count.{point_count}
 use Rattle.job.specs.Allowed.{between}
 use Rattle.job.specs.Faults.{judge}
-use Rattle.path.specs.declared.Laid.{Laid}
-use Rattle.path.specs.declared.Laid.TheVariants as L
 use Rattle.path.specs.Stations.{stations}
-use Rattle.path.specs.Laying.{PathRuns, room_for, lay_answer, laid_runs, LayEnsures}
+use Rattle.path.specs.Laying.{PathRuns, room_for, lay_answer, LayEnsures}
 use Rattle.path.proofs.JobLaws.{stations_answered}
 use Rattle.walk.specs.declared.Walk.{Walk}
-use Rattle.walk.specs.Drawn.{Drawn, view, Call, Outcome, made, refused, refused_at, station_at}
+use Rattle.walk.specs.Drawn.{Drawn, view, Call, Outcome, made, refused, refused_at}
 use Rattle.walk.specs.Tests.{lent, path_lent, reaches_lent, path_sound, vehicle_sound, record_sound}
 use Rattle.walk.specs.Rig.{drawn_start}
-use Rattle.walk.proofs.RecordTests.{lent_call}
 use Rattle.reaches.specs.Cells.{Reaches, lengths_of, cleared_cell, cleared}
 use Rattle.reaches.proofs.CellLaws.{lengths_of_lem}
 use Rattle.reaches.specs.Widest.{widest_among, answer_of, widest_lent, widest_answer}
 use Rattle.stations.specs.declared.Placing.{Placing}
-use Rattle.stations.specs.declared.PlaceAnswer.{PlaceAnswer}
 use Rattle.stations.specs.declared.PlaceAnswer.TheVariants as P
 use Rattle.stations.specs.Placing.{call_of, place_refusal, place_answer, unless_refused, start_heading, PlaceEnsures}
-use Rattle.run.specs.declared.Ran.{Ran}
 use Rattle.run.specs.declared.Ran.TheVariants as R
 use Rattle.run.specs.Walking.{Course, walk_to_end, steps_left}
-use Rattle.run.specs.Run.{finish_at, ran_by, ran_over, walk_over, run_refusal, ran_answer, job_path, job_course, RunEnsures, Runnable}
+use Rattle.run.specs.Run.{finish_at, ran_by, ran_over, walk_over, run_refusal, ran_answer, job_path, job_course}
 use Rattle.run.proofs.WalkingLaws.{same_call}
 use Rattle.run.proofs.CourseLaws.{course_vehicle, course_lengths}
 use Rattle.run.proofs.OverLaws.{placed_going}
-use Rattle.run.proofs.RunLaws.{all_passed, runnable}
+use Rattle.run.proofs.RunLaws.{runnable}
 use Rattle.claim.specs.DemandThree.{Turn, Chain, last_record}
 use Rattle.claim.proofs.RecordKept.{handed_asked, vehicle_left, sound_left}
-use Rattle.claim.specs.WholeRun.{Handed, last_runs, UntilRefused, last_answer, Told, Run, Ensured, Untouched, Followed, WholeRun}
+use Rattle.claim.specs.WholeRun.{Handed, last_runs, UntilRefused, Told, Run, Ensured, Untouched, Followed, WholeRun}
 use Rattle.claim.proofs.CallsKept.{none_refused, passed}
 use Rattle.claim.proofs.RunFollows.{as_call, Ended, calls_end}
 
@@ -54,19 +53,19 @@ not_zero x h zero e n = absurd (n refl)
 not_zero x h (suc m) e n = untouched x h m e
 
 -- laying refuses by the job's fault, or by 21
-laid_by : (a b c : Bool) (f m k : ℕ) → eqb f 0 ≡ a → L.Refused m ≡ pick a (pick b (L.Stations k) (L.Refused 21)) (L.Refused f) → (pick a (pick (b && c) 0 21) f ≡ m) × (m ≡ 0 → ⊥)
+laid_by : (a b c : Bool) (f m k : ℕ) → eqb f 0 ≡ a → N.refused m ≡ pick a (pick b (N.answered k) (N.refused 21)) (N.refused f) → (pick a (pick (b && c) 0 21) f ≡ m) × (m ≡ 0 → ⊥)
 laid_by true true c f m k t e = absurd (let z : ◌≡◌ {A = ℕ} 0 1 = cc in omega arith)
 laid_by true false c f m k t e = let z : m ≡ 21 = cc in (sym z, λ y. omega arith)
 laid_by false b c f m k t e =
     let z : m ≡ f = cc in
     (sym z, λ y. let w : true ≡ false = sym (eq-eqb f 0 (sym z ∙ y)) ∙ t in absurd (let v : ◌≡◌ {A = ℕ} 0 1 = cc in omega arith))
 
-not_laid_lem : (x : Run) → Ensured x → (m : ℕ) (laid : PathRuns) → LayEnsures x.job x.path (L.Refused m) laid → Untouched x m
+not_laid_lem : (x : Run) → Ensured x → (f : Fault) (laid : PathRuns) → LayEnsures x.job x.path (Err f) laid → Untouched x (number_of f)
 unfolding lay_answer run_refusal
-not_laid_lem x h m laid t =
+not_laid_lem x h f laid t =
     let n = length (stations x.job) in
-    let q = laid_by (eqb (judge x.job) 0) (room_for n x.path) (reaches_lent n (lengths_of x.reaches)) (judge x.job) m n refl t.answered in
-    not_zero x h m q.0 q.1
+    let q = laid_by (eqb (judge x.job) 0) (room_for n x.path) (reaches_lent n (lengths_of x.reaches)) (judge x.job) (number_of f) n refl t.answered in
+    not_zero x h (number_of f) q.0 q.1
 
 -- the widest place of runs that were lent
 pub read_off : (v : Vehicle) (s : Drawn) (n : ℕ) (path : PathRuns) (r : Reaches) → s.vehicle ≡ v → record_sound n s ≡ true → lent (call_of n path r) ≡ true → answer_of (widest_among (point_count v) n r) ≡ widest_answer s n r
@@ -77,7 +76,7 @@ read_off v s n path r e k l =
     rw (and b.0 a.1, k) (ap (λ (x : Vehicle). answer_of (widest_among (point_count x) n r)) (sym e))
 
 -- laid: the job has no fault and its path has room
-module _ (x : Run) (h : Ensured x) (n : ℕ) (laid : PathRuns) (t : LayEnsures x.job x.path (L.Stations n) laid) where
+module _ (x : Run) (h : Ensured x) (n : ℕ) (laid : PathRuns) (t : LayEnsures x.job x.path (Ok n) laid) where
   abbrev j : Job
   j = x.job
 

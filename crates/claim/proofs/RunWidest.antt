@@ -1,28 +1,20 @@
 -- A finished run against the moves of the drawn rig over the path that it laid.
 use Prim.Native.Nat.{ℕ, zero, suc, ◌+◌, ◌≤◌, ◌<◌}
 use mathlib.Core.Path.{◌≡◌, refl, sym, ◌∙◌, ap, ap₂, subst}
-use mathlib.Core.Bool.{Bool, true, false, ◌&&◌}
 use mathlib.Core.List.{List, ◌∷◌}
 use native.Mathlib.Omega.{arith}
-use borrow.Author.Tests.{eqb-true, eq-eqb}
-use lib.Dec.{eqb}
 use lib.ListN.{length, replicate}
-use Rattle.number.specs.Read.{pick}
-use Rattle.number.proofs.FieldCodec.{both}
-use Rattle.job.specs.declared.Job.{Job}
 use Rattle.job.specs.declared.Vehicle.{Vehicle}
-use Rattle.job.specs.Faults.{judge}
 use Rattle.marks.specs.Count.{point_count}
 use Rattle.path.specs.Stations.{stations}
-use Rattle.path.specs.Laying.{PathRuns, room_for}
+use Rattle.path.specs.Laying.{PathRuns}
 use Rattle.path.proofs.JobLaws.{laid_answered, stations_count}
 use Rattle.walk.specs.Drawn.{Drawn, Call, station_at, Outcome, made, refused, refused_at}
-use Rattle.walk.specs.Tests.{reaches_lent}
 use Rattle.walk.specs.Rig.{drawn_start, draw_step}
 use Rattle.walk.proofs.VehicleTests.{units_counted}
 use Rattle.reaches.specs.declared.Best.{Best}
 use Rattle.reaches.specs.declared.Best.TheVariants.{Nothing, Found}
-use Rattle.reaches.specs.Cells.{Reaches, lengths_of, cell_at, cleared_cell, cleared}
+use Rattle.reaches.specs.Cells.{Reaches, cell_at, cleared_cell, cleared}
 use Rattle.reaches.specs.Crossing.{crossed, crossed_from}
 use Rattle.reaches.specs.Widest.{widest_among}
 use Rattle.reaches.specs.Inner.{Room}
@@ -38,7 +30,7 @@ use Rattle.run.specs.Walking.{Course, walk_on, steps_left}
 use Rattle.run.specs.Run.{finish_at, ran_by, ran_over, ran_answer, run_refusal, job_path, job_course}
 use Rattle.run.proofs.WalkingLaws.{same_call}
 use Rattle.run.proofs.CourseLaws.{vehicle_stays, course_vehicle}
-use Rattle.run.proofs.RunLaws.{runnable}
+use Rattle.run.proofs.RunLaws.{runnable, tests_passed}
 use Rattle.claim.specs.DemandThree.{drawn_answers}
 use Rattle.claim.specs.StationHistory.{moves_in, made_moves}
 use Rattle.claim.specs.WholeRun.{Run, Ensured}
@@ -110,20 +102,6 @@ finished_course n path made s r f e = (refl, cc)
 finished_course n path (refused m) s r f e = absurd (let z : ◌≡◌ {A = ℕ} 0 1 = cc in omega arith)
 finished_course n path (refused_at m u) s r f e = absurd (let z : ◌≡◌ {A = ℕ} 0 1 = cc in omega arith)
 
--- nothing refused: the tests that were passed
-tests_passed : (a b d : Bool) (f : ℕ) → eqb f 0 ≡ a → pick a (pick (b && d) 0 21) f ≡ 0 → (f ≡ 0) × (b ≡ true) × (d ≡ true)
-tests_passed true b d f t e = let p = both b d (by (b && d) e) in (eqb-true f 0 t, p.0, p.1)
-  where
-    by : (x : Bool) → ◌≡◌ {A = ℕ} (pick x 0 21) 0 → x ≡ true
-    by true q = refl
-    by false q = absurd (omega arith)
-tests_passed false b d f t e = let w : true ≡ false = sym (eq-eqb f 0 e) ∙ t in absurd (let z : ◌≡◌ {A = ℕ} 0 1 = cc in omega arith)
-
-run_passed : (j : Job) (p : PathRuns) (r : Reaches) → run_refusal j p r ≡ 0
-    → (judge j ≡ 0) × (room_for (length (stations j)) p ≡ true) × (reaches_lent (length (stations j)) (lengths_of r) ≡ true)
-unfolding run_refusal
-run_passed j p r e = tests_passed (eqb (judge j) 0) (room_for (length (stations j)) p) (reaches_lent (length (stations j)) (lengths_of r)) (judge j) refl e
-
 pub ran_told : (x : Run) → Ensured x → (f : Finish) → x.answer ≡ R.Finished f → FinishTold x f
 ran_told x h f e =
     let j = x.job in
@@ -135,7 +113,7 @@ ran_told x h f e =
     let a = finished_answer (run_refusal j x.path x.reaches) (ran_over n laid course) f (sym h.answered ∙ e) in
     let b = finished_course n laid course.answer course.state course.runs f a.1 in
     let path : x.path_left ≡ laid = h.path ∙ ap (λ (m : ℕ). unless_refused m laid x.path) a.0 in
-    let t = run_passed j x.path x.reaches a.0 in
+    let t = tests_passed j x.path x.reaches a.0 in
     let runs = runnable j x.path n laid (laid_answered j x.path t.0 t.1) x.reaches t.2 in
     let units = (units_counted j.vehicle runs.vehicle).1 in
     let points = point_count j.vehicle in

@@ -1,8 +1,7 @@
 -- 26 never answers on what was laid (01, "Laying the path", "Why a walk is turned down").
-use Rattle.std.specs.Prelude.{ℕ, ◌≤◌, ◌≡◌, true}
+use Rattle.std.specs.Prelude.{ℕ, ◌≤◌, ◌≡◌, true, Ok}
 use Rattle.job.specs.declared.Job.{Job}
 use Rattle.job.specs.declared.Vehicle.{Vehicle}
-use Rattle.path.specs.declared.Laid.TheVariants as L
 use Rattle.path.specs.Laying.{PathRuns, LayEnsures}
 use Rattle.walk.specs.declared.Walk.{Walk}
 use Rattle.walk.specs.declared.Advanced.{Advanced}
@@ -33,4 +32,4 @@ pub record Passes (n : ℕ) (laid : PathRuns) : Type 0 where
 
 -- the claim: so it is wherever `lay` answered a number of stations
 abbrev pub LaidPasses : Type 0
-LaidPasses = (j : Job) (before : PathRuns) (n : ℕ) (laid : PathRuns) → LayEnsures j before (L.Stations n) laid → Passes n laid
+LaidPasses = (j : Job) (before : PathRuns) (n : ℕ) (laid : PathRuns) → LayEnsures j before (Ok n) laid → Passes n laid

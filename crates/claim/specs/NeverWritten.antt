@@ -1,10 +1,10 @@
 -- What is never written (01, "Stations and the widest place": "Entries past the last station are never written"; 02, N3: "no step touches the bits above them").
-use Rattle.std.specs.Prelude.{ℕ, ◌<◌, ◌≡◌, List, length, get_or, drop}
+use Rattle.std.specs.Prelude.{ℕ, ◌<◌, ◌≡◌, List, length, get_or, drop, Result}
+use Rattle.refusal.specs.declared.Fault.{Fault}
 use Rattle.job.specs.declared.Job.{Job}
 use Rattle.job.specs.declared.Vehicle.{Vehicle}
 use Rattle.marks.specs.Count.{point_count}
 use Rattle.marks.specs.Marks.{bits_from}
-use Rattle.path.specs.declared.Laid.{Laid}
 use Rattle.path.specs.Stations.{stations}
 use Rattle.path.specs.Laying.{PathRuns, LayEnsures}
 use Rattle.walk.specs.declared.Walk.{Walk}
@@ -63,7 +63,7 @@ pub record RunNever (x : Run) : Type 0 where
 
 -- the claim, over what the five entries ensure
 pub record NeverWritten : Type 0 where
-  pub lay : (j : Job) (before : PathRuns) (answer : Laid) (after : PathRuns) → LayEnsures j before answer after → PathPastKept (station_count j) before after
+  pub lay : (j : Job) (before : PathRuns) (answer : Result ℕ Fault) (after : PathRuns) → LayEnsures j before answer after → PathPastKept (station_count j) before after
   pub place : (v : Vehicle) (w : Walk) (c : Call) (before : Reaches) (p : Placing) (after : Reaches) → PlaceEnsures v w c before p after → PlaceNever c before p after
   pub step : (w : Walk) (c : Call) (before : Reaches) (r : Advanced) (after : Reaches) → StepEnsures w c before r after → StepNever w.vehicle c before after
   pub run : (x : Run) → Ensured x → RunNever x

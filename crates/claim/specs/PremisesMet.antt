@@ -1,10 +1,10 @@
 -- The premises of the claims over calls can be met: every entry answers whatever it is handed, any list of step calls can be made from any record,
 -- the calls of a whole run are there, and there are walks with made steps and refused ones.
-use Rattle.std.specs.Prelude.{ℕ, ◌≡◌, List, [], ◌∷◌, map}
+use Rattle.std.specs.Prelude.{ℕ, ◌≡◌, List, [], ◌∷◌, map, Result, Ok, Err}
+use Rattle.refusal.specs.Numbers.{number_of}
+use Rattle.refusal.specs.declared.Fault.{Fault}
 use Rattle.job.specs.declared.Job.{Job}
 use Rattle.job.specs.declared.Vehicle.{Vehicle}
-use Rattle.path.specs.declared.Laid.{Laid}
-use Rattle.path.specs.declared.Laid.TheVariants as L
 use Rattle.path.specs.Laying.{PathRuns, LayEnsures}
 use Rattle.walk.specs.declared.Walk.{Walk}
 use Rattle.walk.specs.Drawn.{Call, Outcome, made, refused, refused_at, outcome_of}
@@ -20,7 +20,7 @@ use Rattle.claim.specs.WholeRun.{Handed, UntilRefused, Run, Ensured}
 
 -- what laying answers and leaves, handed these
 pub record Laying (j : Job) (before : PathRuns) : Type 0 where
-  pub answer : Laid
+  pub answer : Result ℕ Fault
   pub after : PathRuns
   pub ensured : LayEnsures j before answer after
 
@@ -55,7 +55,7 @@ pub record Calls (w : Walk) (hs : List Handing) : Type 0 where
 pub record RunCalls (x : Run) (w : Walk) : Type 0 where
   pub n : ℕ
   pub path : PathRuns
-  pub laid : LayEnsures x.job x.path (L.Stations n) path
+  pub laid : LayEnsures x.job x.path (Ok n) path
   pub placing : Placing
   pub after : Reaches
   pub ensured : PlaceEnsures x.job.vehicle w (call_of n path x.reaches) x.reaches placing after
@@ -67,8 +67,8 @@ pub record RunCalls (x : Run) (w : Walk) : Type 0 where
 
 -- what refuses a run that is refused by m, in `whole_run`: its laying, or placing over what was laid
 pub data RunRefused (x : Run) (w : Walk) (m : ℕ) : Type 0 where
-  not_laid : (path : PathRuns) → LayEnsures x.job x.path (L.Refused m) path → RunRefused x w m
-  not_placed : (n : ℕ) (path : PathRuns) (p : Placing) (after : Reaches) → LayEnsures x.job x.path (L.Stations n) path
+  not_laid : (f : Fault) (path : PathRuns) → LayEnsures x.job x.path (Err f) path → number_of f ≡ m → RunRefused x w m
+  not_placed : (n : ℕ) (path : PathRuns) (p : Placing) (after : Reaches) → LayEnsures x.job x.path (Ok n) path
       → PlaceEnsures x.job.vehicle w (call_of n path x.reaches) x.reaches p after → p.answer ≡ P.Refused m → RunRefused x w m
 
 abbrev pub turn_answers : List Turn → List Outcome

@@ -1,9 +1,10 @@
 -- A whole job is laying, placing and step calls, one after the other until one is refused (01, "Rigs to try", the program sweep).
-use Rattle.std.specs.Prelude.{ℕ, ◌-◌, ◌≡◌, List, [], ◌∷◌, length}
+use Rattle.std.specs.Prelude.{ℕ, ◌-◌, ◌≡◌, List, [], ◌∷◌, length, Ok, Err}
+use Rattle.refusal.specs.Numbers.{number_of}
+use Rattle.refusal.specs.declared.Fault.{Fault}
 use Rattle.job.specs.declared.Job.{Job}
 use Rattle.job.specs.declared.Vehicle.{Vehicle}
 use Rattle.marks.specs.Count.{point_count}
-use Rattle.path.specs.declared.Laid.TheVariants as L
 use Rattle.path.specs.Laying.{PathRuns, LayEnsures}
 use Rattle.walk.specs.declared.Walk.{Walk}
 use Rattle.walk.specs.Drawn.{view, Outcome, made, refused, refused_at, outcome_of}
@@ -72,11 +73,11 @@ pub record Followed (x : Run) (placed : Walk) (n : ℕ) (laid : PathRuns) (after
 
 -- the claim: where laying refuses, or placing on what was laid, the run refuses by that number before it writes; otherwise it is placing and step calls until one is refused
 pub record WholeRun : Type 0 where
-  pub not_laid : (x : Run) → Ensured x → (m : ℕ) (laid : PathRuns) → LayEnsures x.job x.path (L.Refused m) laid → Untouched x m
-  pub not_placed : (x : Run) → Ensured x → (n : ℕ) (laid : PathRuns) → LayEnsures x.job x.path (L.Stations n) laid
+  pub not_laid : (x : Run) → Ensured x → (f : Fault) (laid : PathRuns) → LayEnsures x.job x.path (Err f) laid → Untouched x (number_of f)
+  pub not_placed : (x : Run) → Ensured x → (n : ℕ) (laid : PathRuns) → LayEnsures x.job x.path (Ok n) laid
       → (w : Walk) (p : Placing) (after : Reaches) → PlaceEnsures x.job.vehicle w (call_of n laid x.reaches) x.reaches p after
       → (m : ℕ) → p.answer ≡ P.Refused m → Untouched x m
-  pub walked : (x : Run) → Ensured x → (n : ℕ) (laid : PathRuns) → LayEnsures x.job x.path (L.Stations n) laid
+  pub walked : (x : Run) → Ensured x → (n : ℕ) (laid : PathRuns) → LayEnsures x.job x.path (Ok n) laid
       → (w : Walk) (p : Placing) (after : Reaches) → PlaceEnsures x.job.vehicle w (call_of n laid x.reaches) x.reaches p after
       → p.answer ≡ P.Placed
       → (ts : List Turn) → Chain p.walk ts → Handed n laid after ts → UntilRefused ts

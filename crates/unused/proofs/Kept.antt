@@ -11,6 +11,7 @@ use Rattle.job.specs.declared.Unit.{Unit as VehicleUnit}
 use Rattle.job.specs.declared.Vehicle.{Vehicle}
 use Rattle.job.specs.declared.Job.{Job}
 use Rattle.job.specs.Empty.{empty_unit, cleared_unit}
+use Rattle.refusal.proofs.NumberLaws.{same_answer}
 use Rattle.path.specs.Stations.{stations}
 use Rattle.path.specs.Laying.{PathRuns, lay_answer}
 use Rattle.walk.specs.declared.StepAnswer.{StepAnswer}
@@ -184,9 +185,9 @@ unused = record {
   bytes = bytes;
   stations = laid_stations;
   written = λ j k s before a b after other h g.
-      (rw (h.answer, g.answer, fault j k s, bytes j k s), rw (h.written, g.written, fault j k s, bytes j k s));
+      (same_answer a b (rw (h.answer, g.answer, fault j k s, bytes j k s)), rw (h.written, g.written, fault j k s, bytes j k s));
   laid = λ j k s before a b after other h g.
-      (rw (h.answered, g.answered, laid_answer j k s before), rw (h.runs, g.runs, laid_answer j k s before, laid_runs_lem j k s (lay_answer k before) before));
+      (same_answer a b (rw (h.answered, g.answered, laid_answer j k s before)), rw (h.runs, g.runs, laid_answer j k s before, laid_runs_lem j k s (lay_answer k before) before));
   placed = placing;
   stepped = stepping;
   widest = λ w x e asked runs a b h g. rw (h, g, widest_same (view w) (view x) e asked runs);

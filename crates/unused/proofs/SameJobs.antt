@@ -1,4 +1,5 @@
 -- Faults, bytes and stations of jobs that agree but for unused entries. Assumes nothing.
+use Prim.Native.Nat.{ℕ}
 use mathlib.Core.Path.{◌≡◌, refl, sym, ◌∙◌, ap}
 use mathlib.Core.List.{map}
 use lib.ListN.{length, take}
@@ -12,8 +13,7 @@ use Rattle.job.proofs.FaultLaws.{sound_vehicle, sound}
 use Rattle.job_writer.specs.Write.{write_job}
 use Rattle.job_writer.proofs.RecordCodec.{sixty_four}
 use Rattle.job_writer.proofs.RoundTrip.{kept, units_written}
-use Rattle.path.specs.declared.Laid.{Laid}
-use Rattle.path.specs.declared.Laid.TheVariants as L
+use Rattle.refusal.specs.Numbers.{Answer, answered, refused}
 use Rattle.path.specs.Stations.{stations}
 use Rattle.path.specs.Laying.{PathRuns, lay_answer, laid_runs}
 use Rattle.unused.specs.Same.{SameVehicle, SameJob}
@@ -59,6 +59,6 @@ module _ (j k : Job) (s : SameJob j k) where
   unfolding lay_answer
   laid_answer r = rw (fault, laid_stations)
 
-  pub laid_runs_lem : (a : Laid) (r : PathRuns) → laid_runs a j r ≡ laid_runs a k r
-  laid_runs_lem (L.Stations n) r = rw laid_stations
-  laid_runs_lem (L.Refused n) r = refl
+  pub laid_runs_lem : (a : Answer ℕ) (r : PathRuns) → laid_runs a j r ≡ laid_runs a k r
+  laid_runs_lem (answered n) r = rw laid_stations
+  laid_runs_lem (refused n) r = refl

@@ -28,7 +28,7 @@ use Rattle.point_table.specs.declared.Row.{Row}
 use Rattle.points.specs.Ends.{unit_places, places_of}
 use Rattle.points.specs.Corners.{unit_of, body_by, body_of, front_by, front_corner, rear_corner, corner_of}
 use Rattle.point_table.specs.Table.{point_rows}
-use Rattle.points.specs.Points.{end_of, along_of, half_width, point_at, rig_points}
+use Rattle.points.specs.Points.{half_width, point_at, rig_points}
 use Rattle.stations.specs.Stepping.{points_at}
 use Rattle.unused.specs.Same.{SameVehicle, SameRig}
 

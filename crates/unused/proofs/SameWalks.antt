@@ -2,11 +2,11 @@
 use Prim.Native.Nat.{ℕ, zero, suc}
 use mathlib.Core.Path.{◌≡◌, refl}
 use Rattle.path.specs.Laying.{PathRuns}
-use Rattle.walk.specs.Drawn.{Drawn, Call, Outcome, made, refused, refused_at}
+use Rattle.walk.specs.Drawn.{Drawn, Outcome, made, refused, refused_at}
 use Rattle.walk.specs.Rig.{draw_step}
 use Rattle.reaches.specs.Cells.{Reaches}
 use Rattle.stations.specs.Placing.{call_of}
-use Rattle.stations.specs.Stepping.{points_at, if_made}
+use Rattle.stations.specs.Stepping.{if_made}
 use Rattle.run.specs.Walking.{Course, walk_on}
 use Rattle.unused.specs.Same.{SameRig}
 use Rattle.unused.proofs.SameRigs.{stepped}

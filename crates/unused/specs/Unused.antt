@@ -1,14 +1,13 @@
 -- "Unused units come back zero and unused elements as straights of length 0; nothing else reads them" (01, "The job record"), "A short job's body fields come
 -- back zero and are never read" (02, N3): what the entries ensure of two jobs, vehicles or walk records that agree on everything but unused entries is the same.
-use Rattle.std.specs.Prelude.{ℕ, ◌≡◌, List, length}
+use Rattle.std.specs.Prelude.{ℕ, ◌≡◌, List, Result, length}
 use Rattle.job.specs.declared.Vehicle.{Vehicle}
 use Rattle.job.specs.declared.Job.{Job}
 use Rattle.job.specs.Empty.{cleared}
 use Rattle.job.specs.Faults.{vehicle_fault, judge}
-use Rattle.job_writer.specs.declared.Wrote.{Wrote}
+use Rattle.refusal.specs.declared.Fault.{Fault}
 use Rattle.job_writer.specs.Write.{write_job}
 use Rattle.job_writer.specs.Answers.{WriteEnsures}
-use Rattle.path.specs.declared.Laid.{Laid}
 use Rattle.path.specs.Stations.{stations}
 use Rattle.path.specs.Laying.{PathRuns, LayEnsures}
 use Rattle.walk.specs.declared.Walk.{Walk}
@@ -48,10 +47,10 @@ pub record Unused : Type 0 where
   pub bytes : (j k : Job) → SameJob j k → write_job j ≡ write_job k
   pub stations : (j k : Job) → SameJob j k → stations j ≡ stations k
   -- written into one run
-  pub written : (j k : Job) → SameJob j k → (before : List ℕ) (a b : Wrote) (after other : List ℕ)
+  pub written : (j k : Job) → SameJob j k → (before : List ℕ) (a b : Result ℕ Fault) (after other : List ℕ)
       → WriteEnsures j before a after → WriteEnsures k before b other → (a ≡ b) × (after ≡ other)
   -- laid into the same four runs
-  pub laid : (j k : Job) → SameJob j k → (before : PathRuns) (a b : Laid) (after other : PathRuns)
+  pub laid : (j k : Job) → SameJob j k → (before : PathRuns) (a b : Result ℕ Fault) (after other : PathRuns)
       → LayEnsures j before a after → LayEnsures k before b other → (a ≡ b) × (after ≡ other)
   -- placed over the same path and runs; refused, each hands back the record it was handed
   pub placed : (v u : Vehicle) → SameVehicle v u → (w x : Walk) → SameRig (view w) (view x)

@@ -1,12 +1,10 @@
 -- The premises of `Unused` can be met by jobs and walk records that are not equal: two of each that differ in unused entries alone, and calls on both.
-use Rattle.std.specs.Prelude.{ℕ, ◌≡◌, replicate, take}
+use Rattle.std.specs.Prelude.{ℕ, ◌≡◌, Ok, replicate, take}
 use Rattle.job.specs.declared.Vehicle.{Vehicle}
 use Rattle.job.specs.declared.Job.{Job}
 use Rattle.job.specs.Faults.{judge}
 use Rattle.job_reader.specs.Worked.{worked_record}
-use Rattle.job_writer.specs.declared.Wrote.TheVariants as Wrote
 use Rattle.job_writer.specs.Answers.{WriteEnsures}
-use Rattle.path.specs.declared.Laid.TheVariants as L
 use Rattle.path.specs.Laying.{PathRuns, LayEnsures}
 use Rattle.walk.specs.declared.Walk.{Walk}
 use Rattle.walk.specs.declared.StepAnswer.{StepAnswer}
@@ -27,9 +25,9 @@ use Rattle.unused.specs.Same.{SameJob, SameRig}
 -- a job without a fault that is written as the worked record, laid as 14 stations and, lent these seven runs, run to the worked end
 pub record RunsAsWorked (j : Job) (path : PathRuns) (reaches : Reaches) : Type 0 where
   pub no_fault : judge j ≡ 0
-  pub written : WriteEnsures j (replicate 25 0) (Wrote.Bytes 25) worked_record
+  pub written : WriteEnsures j (replicate 25 0) (Ok 25) worked_record
   pub path_left : PathRuns
-  pub laid : LayEnsures j path (L.Stations 14) path_left
+  pub laid : LayEnsures j path (Ok 14) path_left
   pub reaches_left : Reaches
   pub ran : RunEnsures j path reaches (R.Finished worked_finish) path_left reaches_left
 
