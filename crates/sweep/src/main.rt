@@ -6,7 +6,7 @@ ghost use Rattle.swept.specs.Swept.{swept_of};
 ghost use Rattle.answer_text.specs.Answers.{TextEnsures};
 
 use answer_text::Text;
-use job_input::Input;
+use std::io::{Read, Write};
 
 fn answer(input: &[u8]) -> Text
     ensures { TextEnsures (swept_of input.now) result }
@@ -14,23 +14,13 @@ fn answer(input: &[u8]) -> Text
     answer_text::text_of(swept::sweep_job(input))
 }
 
-// Where standard error cannot be written either, nothing is left to tell it on.
-fn complain(rt: HostRuntime, message: &str) {
-    let _ = rt.eprintln(message);
+fn run<R: Read, W: Write>(stdin: &mut R, stdout: &mut W) -> Result<(), &'static str> {
+    let mut input = [0u8; 1024];
+    let count = job_input::read_standard_input(stdin, &mut input)?;
+    let text = answer(&input[..count]);
+    job_input::write_answer(stdout, text.as_bytes())
 }
 
 fn main(rt: HostRuntime) {
-    let mut input = [0u8; 1024];
-    let read = job_input::read_input(&mut rt.stdin(), &mut input);
-    match read {
-        Input::Bytes(count) => {
-            let text = answer(&input[..count]);
-            let bytes = text.bytes;
-            let length = text.length;
-            if rt.write_all(&bytes[..length]).is_err() {
-                complain(rt, "sweep: standard output cannot be written");
-            }
-        }
-        Input::Failed => complain(rt, "sweep: standard input cannot be read"),
-    }
+    job_input::tell_failure(&rt, "sweep", run(&mut rt.stdin(), &mut rt.stdout()));
 }
