@@ -6,117 +6,99 @@
 mod measure;
 
 use job::{Job, Vehicle};
-use path::Laid;
+use path::{Path, PathRoom};
 use plane::Vec2;
-use trial_tools::reading::Cursor;
-use trial_tools::{arguments, lines, places, printing, reading, rigs, tables};
+use trial_tools::reading::Line;
+use trial_tools::{places, rigs, tables};
 use walk::Walk;
 
-// What is measured from a station on: the last unit's axle on a circle, or the first unit's vector against the line's next one.
+// What is measured: the last unit's axle on a circle, or the first unit's vector against the line's next one.
 #[derive(Clone, Copy)]
-pub struct Trial {
-    pub circle: bool,
-    pub from: usize,
-    pub centre: Vec2,
-    pub radius: u32,
-    pub most: u32,
-    pub next: Cursor,
+enum Course {
+    Circle(Vec2, u32),
+    Straight,
 }
 
-// The stations measured, the largest deviation of them, and how far the line is read.
+// What is measured, from which station on, and how far off it may be.
 #[derive(Clone, Copy)]
-pub struct Found {
-    pub stations: u64,
-    pub largest: u32,
-    pub next: Cursor,
+struct Trial {
+    course: Course,
+    from: usize,
+    most: u32,
 }
 
-fn with_off(f: Found, off: u32, next: Cursor) -> Found {
-    let before = f.largest;
-    Found {
-        stations: std::num::wrapping_add_u64(f.stations, 1),
-        largest: if before < off { off } else { before },
-        next,
+// The stations measured, and the largest deviation of them; none can be told where the line does not say what it is from.
+#[derive(Clone, Copy)]
+struct Found {
+    stations: u64,
+    largest: Option<u32>,
+}
+
+impl Found {
+    fn enter(&mut self, off: Option<u32>) {
+        self.stations = self.stations.wrapping_add(1);
+        self.largest = match (self.largest, off) {
+            (Some(largest), Some(off)) => Some(largest.max(off)),
+            _ => None,
+        };
     }
 }
 
-// The rig as it stands, measured where the trial has come that far; a rig that was held up is beyond all bounds.
+// How far off a rig at its station is; one that was held up is beyond all bounds.
 fn measured(
-    line: &[u8],
-    t: Trial,
-    f: Found,
+    line: &mut Line<'_>,
+    course: Course,
     made: usize,
     w: Walk,
     asked: usize,
-    xs: &[i32],
-    ys: &[i32],
-    gxs: &[i32],
-    gys: &[i32],
-) -> Found {
-    let here = f.next;
-    if made < t.from {
-        return f;
-    }
+    path: Path<'_>,
+) -> Option<u32> {
     if w.station != made {
-        return with_off(f, measure::BEYOND, here);
+        return Some(measure::BEYOND);
     }
-    if t.circle {
-        let p = places::points_at(w, asked, xs, ys, gxs, gys);
-        let off = measure::off_circle(p[4], p[5], t.centre, t.radius);
-        return with_off(f, off, here);
+    match course {
+        Course::Circle(centre, radius) => {
+            let Some(p) = places::points_at(w, asked, path.xs, path.ys, path.gxs, path.gys) else {
+                return Some(measure::BEYOND);
+            };
+            Some(measure::off_circle(p[4], p[5], centre, radius))
+        }
+        Course::Straight => Some(measure::between(w.d[0], line.vector()?)),
     }
-    let wanted = arguments::read_vector(line, here);
-    let d = w.d;
-    let off = measure::between(d[0], wanted.vector);
-    with_off(f, off, wanted.next)
 }
 
 // The rig is placed and stepped to the last station, and measured at each.
 fn follow(
-    line: &[u8],
+    line: &mut Line<'_>,
     t: Trial,
     v: Vehicle,
     asked: usize,
-    xs: &[i32],
-    ys: &[i32],
-    gxs: &[i32],
-    gys: &[i32],
+    path: Path<'_>,
     left: &mut [i32],
     right: &mut [i32],
     marks: &mut [marks::Mark],
 ) -> Found {
-    let placing = stations::place(
-        v,
-        rigs::no_walk(v),
-        asked,
-        xs,
-        ys,
-        gxs,
-        gys,
-        left,
-        right,
-        marks,
-    );
+    let before = rigs::no_walk(v);
+    let Path { xs, ys, gxs, gys } = path;
+    let placing = stations::place(v, before, asked, xs, ys, gxs, gys, left, right, marks);
     let mut w = placing.walk;
-    let next = t.next;
-    let mut f = Found {
+    let mut found = Found {
         stations: 0,
-        largest: 0,
-        next,
+        largest: Some(0),
     };
-    let mut made: usize = 0;
-    while made < asked {
-        let g = measured(line, t, f, made, w, asked, xs, ys, gxs, gys);
-        f = g;
-        made += 1;
+    for made in 0..asked {
+        if t.from <= made {
+            let off = measured(line, t.course, made, w, asked, path);
+            found.enter(off);
+        }
         let advanced = stations::step(w, asked, xs, ys, gxs, gys, left, right, marks);
         w = advanced.walk;
     }
-    f
+    found
 }
 
 // The job's path is laid and followed; nothing is measured where it is refused.
-fn try_job(line: &[u8], t: Trial, j: Job) -> Found {
+fn try_job(line: &mut Line<'_>, t: Trial, j: Job) -> Found {
     let mut xs = [0i32; 600];
     let mut ys = [0i32; 600];
     let mut gxs = [0i32; 600];
@@ -124,109 +106,115 @@ fn try_job(line: &[u8], t: Trial, j: Job) -> Found {
     let mut left = [0i32; 600];
     let mut right = [0i32; 600];
     let mut marks = [0u32; 600];
-    let laid = path::lay(j, &mut xs, &mut ys, &mut gxs, &mut gys);
-    let v = j.vehicle;
-    let next = t.next;
-    match laid {
-        Laid::Stations(n) => follow(
-            line, t, v, n, &xs, &ys, &gxs, &gys, &mut left, &mut right, &mut marks,
-        ),
-        Laid::Refused(_) => Found {
+    let mut room = PathRoom {
+        xs: &mut xs,
+        ys: &mut ys,
+        gxs: &mut gxs,
+        gys: &mut gys,
+    };
+    let Ok(asked) = path::lay(j, &mut room) else {
+        return Found {
             stations: 0,
-            largest: measure::BEYOND,
-            next,
-        },
-    }
+            largest: Some(measure::BEYOND),
+        };
+    };
+    follow(
+        line,
+        t,
+        j.vehicle,
+        asked,
+        room.laid(),
+        &mut left,
+        &mut right,
+        &mut marks,
+    )
 }
 
-// A circle's centre and radius; the axle may be 5 mm off.
-fn circle_trial(line: &[u8], from: usize, c: Cursor) -> Trial {
-    let centre = arguments::read_vector(line, c);
-    let radius = reading::read_natural(line, centre.next);
-    let place = centre.vector;
-    let next = radius.next;
-    Trial {
-        circle: true,
-        from,
-        centre: place,
-        radius: radius.value,
-        most: 50,
-        next,
-    }
-}
-
-// How far off the vectors may be; they themselves are read station by station.
-fn straight_trial(line: &[u8], from: usize, c: Cursor) -> Trial {
-    let most = reading::read_natural(line, c);
-    let next = most.next;
-    Trial {
-        circle: false,
-        from,
-        centre: Vec2 { x: 0, y: 0 },
-        radius: 0,
-        most: most.value,
-        next,
-    }
-}
-
-fn read_trial(line: &[u8], kind: usize, from: usize, c: Cursor) -> Trial {
+// A circle's centre and radius, with the axle up to 5 mm off; or how far off the vectors may be, which are read station by station.
+fn read_trial(line: &mut Line<'_>, kind: usize, from: usize) -> Option<Trial> {
     if kind == 1 {
-        return circle_trial(line, from, c);
+        let course = Course::Circle(line.vector()?, line.number()?);
+        return Some(Trial {
+            course,
+            from,
+            most: 50,
+        });
     }
-    straight_trial(line, from, c)
+    Some(Trial {
+        course: Course::Straight,
+        from,
+        most: line.number()?,
+    })
 }
 
-fn report_name(rt: &impl Print, t: Trial, units: usize) {
-    printing::write_all(rt, b"unit ");
-    printing::print_decimal(rt, units as u64);
-    if t.circle {
-        printing::write_all(rt, b" on a circle, its axle at ");
-        printing::print_decimal(rt, t.radius as u64);
-        printing::write_all(rt, b": ");
-        return;
-    }
-    printing::write_all(rt, b" on the straight after a bend: ");
+// What a line came to.
+#[derive(Clone, Copy)]
+struct Outcome {
+    units: usize,
+    trial: Trial,
+    found: Found,
+    is_whole: bool,
 }
 
-fn report(rt: &impl Print, t: Trial, units: usize, f: Found, length: usize) {
-    let next = f.next;
-    report_name(rt, t, units);
-    printing::print_decimal(rt, f.stations);
-    printing::write_all(rt, b" stations, largest deviation ");
-    printing::print_decimal(rt, f.largest as u64);
-    printing::write_all(rt, b" ticks of ");
-    printing::print_decimal(rt, t.most as u64);
-    if (f.largest <= t.most) & (f.stations != 0) & (next.right & (next.at == length)) {
-        printing::write_all(rt, b": passed\n");
-        return;
-    }
-    printing::write_all(rt, b": FAILED\n");
+// Stands for a line that cannot be read: no rig went anywhere.
+const UNREAD: Outcome = Outcome {
+    units: 0,
+    trial: Trial {
+        course: Course::Straight,
+        from: 0,
+        most: 0,
+    },
+    found: Found {
+        stations: 0,
+        largest: None,
+    },
+    is_whole: false,
+};
+
+fn try_line(line: &[u8]) -> Option<Outcome> {
+    let mut line = Line::of(line)?;
+    let kind = line.number()?;
+    let job = line.job()?;
+    let from = line.number()?;
+    line.equals_sign()?;
+    let trial = read_trial(&mut line, kind, from)?;
+    let found = try_job(&mut line, trial, job);
+    Some(Outcome {
+        units: job.vehicle.count,
+        trial,
+        found,
+        is_whole: line.end().is_some(),
+    })
 }
 
-fn try_line(rt: &impl Print, line: &[u8]) {
-    let start = Cursor { at: 0, right: true };
-    let kind = reading::read_size(line, start);
-    let read = arguments::read_job(line, kind.next);
-    let from = reading::read_size(line, read.next);
-    let told = reading::equals_sign(line, from.next);
-    let j = read.job;
-    let v = j.vehicle;
-    let t = read_trial(line, kind.value, from.value, told);
-    report(rt, t, v.count, try_job(line, t, j), line.len());
+fn passes(o: Outcome) -> bool {
+    let most = o.trial.most;
+    let is_near = o.found.largest.is_some_and(|largest| largest <= most);
+    is_near && o.found.stations != 0 && o.is_whole
 }
 
-fn try_lines(rt: &impl Print, text: &[u8]) {
-    let mut at: usize = 0;
-    while at < text.len() {
-        let l = lines::line_at(text, at);
-        let end = l.end;
-        try_line(rt, &text[at..end]);
-        at = l.next;
-    }
+// What cannot be written is lost: a trial has nowhere else to tell it.
+fn report(rt: &impl Print, o: Outcome) {
+    let units = o.units;
+    let _course = match o.trial.course {
+        Course::Circle(_, radius) => {
+            print!(rt; "unit {units} on a circle, its axle at {radius}: ")
+        }
+        Course::Straight => print!(rt; "unit {units} on the straight after a bend: "),
+    };
+    let stations = o.found.stations;
+    let largest = o.found.largest.unwrap_or(measure::BEYOND);
+    let most = o.trial.most;
+    let verdict = if passes(o) { "passed" } else { "FAILED" };
+    let _found = println!(rt;
+        "{stations} stations, largest deviation {largest} ticks of {most}: {verdict}"
+    );
 }
 
 fn main(rt: HostRuntime) {
     let mut text = [0u8; 65536];
-    let n = tables::read_table(&rt, "table.txt", &mut text).unwrap_or(0);
-    try_lines(&rt, &text[..n]);
+    let length = tables::read_table(&rt, "table.txt", &mut text).unwrap_or(0);
+    for line in text[..length].split_inclusive(|b| *b == b'\n') {
+        report(&rt, try_line(line).unwrap_or(UNREAD));
+    }
 }

@@ -7,55 +7,57 @@ use trial_tools::places;
 // Stands where a deviation is more than can be told.
 pub const BEYOND: u32 = 1000;
 
-// A square; of numbers that no table here has, none.
-fn square(d: u32) -> i64 {
-    if 2000000 < d {
-        return places::UNMEASURED;
-    }
-    let z = exact::wide(d);
+// The largest radius of a circle that is measured.
+const MOST_RADIUS: u32 = 500000;
+
+fn square(d: u32) -> i64
+    requires { d ≤ 2000000 }
+{
+    let z = i64::from(d);
     z * z
 }
 
 // How far the root of n lies from what is wanted, rounded up, and 1000 where that is more.
 fn deviation(n: i64, wanted: u32) -> u32
+    requires { wanted ≤ 1000000 }
     ensures { result ≤ 1000 }
 {
-    if 1000000 < wanted {
-        return BEYOND;
-    }
-    let mut e: u32 = 0;
-    while e < BEYOND {
-        let low = if e < wanted { wanted - e } else { 0 };
-        if (square(low) <= n) & (n <= square(wanted + e)) {
+    for e in 0..BEYOND {
+        if square(wanted.saturating_sub(e)) <= n && n <= square(wanted + e) {
             return e;
         }
-        e += 1;
     }
-    e
+    BEYOND
 }
 
 // The sum of two places of the map, which is twice their middle.
-fn sum(a: Vec2, b: Vec2) -> Vec2 {
-    if places::is_on_map(a) {
-        if places::is_on_map(b) {
-            return plane::plus(a, b);
-        }
+fn sum(a: Vec2, b: Vec2) -> Option<Vec2> {
+    if !places::is_on_map(a) || !places::is_on_map(b) {
+        return None;
     }
-    Vec2 {
-        x: places::UNMEASURED,
-        y: 0,
-    }
+    Some(plane::plus(a, b))
+}
+
+// The squared distance of twice the middle of two places from twice a centre.
+fn square_from_centre(a: Vec2, b: Vec2, centre: Vec2) -> Option<i64> {
+    places::square_between(sum(a, b)?, sum(centre, centre)?)
 }
 
 // How far the middle of two places is from a circle: both are taken twofold, so that no half is lost.
 pub fn off_circle(a: Vec2, b: Vec2, centre: Vec2, radius: u32) -> u32 {
-    if 500000 < radius {
+    if MOST_RADIUS < radius {
         return BEYOND;
     }
-    let n = places::square_between(sum(a, b), sum(centre, centre));
-    (deviation(n, 2 * radius) + 1) / 2
+    let off = match square_from_centre(a, b, centre) {
+        Some(n) => deviation(n, 2 * radius),
+        None => BEYOND,
+    };
+    off.div_ceil(2)
 }
 
 pub fn between(a: Vec2, b: Vec2) -> u32 {
-    deviation(places::square_between(a, b), 0)
+    match places::square_between(a, b) {
+        Some(n) => deviation(n, 0),
+        None => BEYOND,
+    }
 }

@@ -2,183 +2,88 @@
 // a space, and the text, with "/" for each line feed.
 #![tactic(auto)]
 
-ghost use Rattle.std.specs.Prelude.{◌≤◌, length};
+ghost use Rattle.std.specs.Prelude.{◌<◌, IfSome};
 
 use answer_text::Text;
 use std::rt::Files;
-use trial_tools::{printing, tables};
+use std::str;
+use trial_tools::counts::Count;
+use trial_tools::reading::content;
+use trial_tools::tables;
 
-// The place of the first byte like this one, or the end.
-fn find(text: &[u8], byte: u8) -> usize
-    ensures { result ≤ length text.now }
+// Room for some bytes more than the longest job of the tables has.
+const JOB_ROOM: usize = 1100;
+
+// The value of a hexadecimal digit.
+fn digit(b: u8) -> Option<u8>
+    ensures { IfSome result (λ d. d < 16) }
 {
-    let mut i: usize = 0;
-    while i < text.len() {
-        if text[i] == byte {
-            return i;
-        }
-        i += 1;
+    match b {
+        b'0'..=b'9' => Some(b - b'0'),
+        b'a'..=b'f' => Some(b - b'a' + 10),
+        _ => None,
     }
-    i
 }
 
-// A hexadecimal digit's value, 16 for any other byte.
-fn digit(b: u8) -> u32
-    ensures { result ≤ 16 }
-{
-    if b < 48 {
-        return 16;
+// The bytes that the digits are, in the room lent; a minus alone stands for no bytes.
+fn decode<'r>(digits: &[u8], room: &'r mut [u8]) -> Option<&'r [u8]> {
+    if digits == b"-".as_slice() {
+        return room.get(..0);
     }
-    if b <= 57 {
-        return b as u32 - 48;
+    let (pairs, rest) = digits.as_chunks::<2>();
+    if !rest.is_empty() {
+        return None;
     }
-    if b < 97 {
-        return 16;
+    let bytes = room.get_mut(..pairs.len())?;
+    for (byte, [high, low]) in bytes.iter_mut().zip(pairs) {
+        *byte = digit(*high)? * 16 + digit(*low)?;
     }
-    if b <= 102 {
-        return b as u32 - 87;
-    }
-    16
-}
-
-// The byte of two digits at place k, 256 and more where there is none.
-fn pair(digits: &[u8], k: usize) -> u32 {
-    let n = digits.len();
-    if n <= k {
-        return 256;
-    }
-    if n - k <= 1 {
-        return 256;
-    }
-    let high = digit(digits[k]);
-    let low = digit(digits[k + 1]);
-    if 15 < low {
-        return 256;
-    }
-    high * 16 + low
-}
-
-// The bytes that the digits are, up to the first that is no digit.
-#[derive(Clone, Copy)]
-pub struct Decoded {
-    pub bytes: [u8; 1100],
-    pub count: usize,
-}
-
-fn decode(digits: &[u8]) -> Decoded {
-    let mut bytes = [0u8; 1100];
-    let mut count: usize = 0;
-    while count < 1100 {
-        let b = pair(digits, 2 * count);
-        if 255 < b {
-            return Decoded { bytes, count };
-        }
-        bytes[count] = b as u8;
-        count += 1;
-    }
-    Decoded { bytes, count }
+    Some(bytes)
 }
 
 // A byte of the table's text, as it is printed.
 fn printed(b: u8) -> u8 {
-    if b == 47 { 10 } else { b }
+    if b == b'/' { b'\n' } else { b }
 }
 
-fn reads_as(text: Text, wanted: &[u8]) -> bool {
-    let bytes = text.bytes;
-    let length = text.length;
-    if wanted.len() != length {
-        return false;
-    }
-    if 192 < length {
-        return false;
-    }
-    let mut i: usize = 0;
-    while i < length {
-        if bytes[i] != printed(wanted[i]) {
-            return false;
+fn reads_as(text: Text, wanted: &[u8]) -> Option<()> {
+    let bytes = text.bytes.get(..text.length)?;
+    let same = bytes.len() == wanted.len()
+        && bytes.iter().zip(wanted).all(|(b, w)| *b == printed(*w));
+    same.then_some(())
+}
+
+// Something, where the line's job prints what it should.
+fn try_line(line: &[u8]) -> Option<()> {
+    let (digits, wanted) = str::from_utf8(content(line)).ok()?.split_once(' ')?;
+    let mut room = [0u8; JOB_ROOM];
+    let job = decode(digits.as_bytes(), &mut room)?;
+    reads_as(
+        answer_text::text_of(swept::sweep_job(job)),
+        wanted.as_bytes(),
+    )
+}
+
+// Each line that does not hold is named. What cannot be written is lost: a trial has nowhere else to tell it.
+fn try_lines(rt: &impl Print, text: &[u8]) -> Count {
+    let mut count = Count::default();
+    for (number, line) in (1u64..).zip(text.split_inclusive(|b| *b == b'\n')) {
+        let answer = try_line(line);
+        if answer.is_none() {
+            let _written = println!(rt; "FAILED: line {number}");
         }
-        i += 1;
+        count.enter(number, answer);
     }
-    true
-}
-
-// The job is swept, and what is printed compared.
-fn sweeps_to(job: Decoded, wanted: &[u8]) -> bool {
-    let bytes = job.bytes;
-    let count = job.count;
-    if 1100 < count {
-        return false;
-    }
-    let swept = swept::sweep_job(&bytes[..count]);
-    reads_as(answer_text::text_of(swept), wanted)
-}
-
-// Whether all digits were taken; a minus alone stands for no bytes.
-fn is_whole(digits: &[u8], count: usize) -> bool {
-    if digits.len() == 1 {
-        return digits[0] == 45;
-    }
-    (count <= 1100) & (digits.len() == 2 * (count % 2048))
-}
-
-fn holds(line: &[u8]) -> bool {
-    let space = find(line, 32);
-    if line.len() <= space {
-        return false;
-    }
-    let digits = &line[..space];
-    let job = decode(digits);
-    is_whole(digits, job.count) & sweeps_to(job, &line[space + 1..])
-}
-
-// 1 where the line holds; else it is named.
-fn held(rt: &impl Print, line: &[u8], number: usize) -> usize
-    ensures { result ≤ 1 }
-{
-    if holds(line) {
-        return 1;
-    }
-    printing::write_all(rt, b"FAILED: line ");
-    printing::print_decimal(rt, number as u64);
-    printing::write_all(rt, b"\n");
-    0
-}
-
-// How many lines there are, and how many hold.
-#[derive(Clone, Copy)]
-pub struct Tally {
-    pub lines: usize,
-    pub good: usize,
-}
-
-fn tallied(rt: &impl Print, text: &[u8]) -> Tally {
-    let mut lines: usize = 0;
-    let mut good: usize = 0;
-    let mut at: usize = 0;
-    while at < text.len() {
-        let l = trial_tools::lines::line_at(text, at);
-        let end = l.end;
-        lines += 1;
-        good += held(rt, &text[at..end], lines);
-        at = l.next;
-    }
-    Tally { lines, good }
-}
-
-fn report(rt: &impl Print, name: &str, t: Tally) {
-    printing::write_all(rt, name.as_bytes());
-    printing::write_all(rt, b": ");
-    printing::print_decimal(rt, t.good as u64);
-    printing::write_all(rt, b" of ");
-    printing::print_decimal(rt, t.lines as u64);
-    printing::write_all(rt, b" jobs print what they should\n");
+    count
 }
 
 fn run_table<R: Files + Print>(rt: &R, name: &str) {
     let mut table = [0u8; 262144];
-    let count = tables::read_table(rt, name, &mut table).unwrap_or(0);
-    report(rt, name, tallied(rt, &table[..count]));
+    let length = tables::read_table(rt, name, &mut table).unwrap_or(0);
+    let count = try_lines(rt, &table[..length]);
+    let right = count.right;
+    let all = count.all;
+    let _written = println!(rt; "{name}: {right} of {all} jobs print what they should");
 }
 
 fn main(rt: HostRuntime) {

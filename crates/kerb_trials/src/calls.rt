@@ -1,200 +1,137 @@
 // The calls of a table's line, and what they answered held to the line.
-ghost use Rattle.std.specs.Prelude.{◌≡◌, length};
-
-use kerb_reader::KerbRead;
+use kerb_reader::KerbRefusal;
 use kerb_report::KerbReport;
 use kerbed::Kerbed;
-use trial_tools::reading::Cursor;
-use walk::Walk;
+use path::PathRoom;
+use refusal::Fault;
+use trial_calls::runs::{PathArrays, ROOM};
+use trial_tools::reading::{Line, same};
 
 // Room for some bytes more than the longest geometry has.
-fn empty_geometry() -> [u8; 8100]
-    ensures { 8100 ≡ length result }
-{
-    [0; 8100]
+const GEOMETRY_ROOM: usize = 8100;
+
+// A refusal's number or 0, where it is placed, and how many vertices were read.
+fn numbers_of_reading(read: Result<usize, KerbRefusal>) -> (u8, usize, usize) {
+    match read {
+        Ok(count) => (0, 0, count),
+        Err(KerbRefusal::Field(refusal)) => (refusal.fault.number(), refusal.place, 0),
+        Err(KerbRefusal::NoRoom) => (Fault::RunTooShort.number(), 0, 0),
+    }
 }
 
-// A number, a place and a count.
-fn expect_three(line: &[u8], c: Cursor, number: u8, place: usize, count: usize) -> Cursor {
-    let answer = trial_tools::reading::expect_size(line, c, number as usize);
-    let at = trial_tools::reading::expect_size(line, answer, place);
-    trial_tools::reading::expect_size(line, at, count)
+pub fn read(line: &mut Line<'_>) -> Option<()> {
+    let mut geometry = [0u8; GEOMETRY_ROOM];
+    let mut xs = [0i32; ROOM];
+    let mut ys = [0i32; ROOM];
+    let geometry = line.run(&mut geometry)?;
+    let xs = line.run(&mut xs)?;
+    let ys = line.run(&mut ys)?;
+    line.equals_sign()?;
+    let (number, place, count) = numbers_of_reading(kerb_reader::read_kerb(geometry, xs, ys));
+    same(line.number()?, number)?;
+    same(line.number()?, place)?;
+    same(line.number()?, count)?;
+    line.expect_run(xs)?;
+    line.expect_run(ys)
 }
 
-// A number and a unit, whether a touch was found, the step and the point.
-fn expect_touch(
-    line: &[u8],
-    c: Cursor,
+// The unit that cannot go on, whether a touch was found, the step and the point; 0 for what there is not.
+#[derive(Clone, Copy, Default, PartialEq, Eq)]
+struct Touch {
     unit: usize,
     found: usize,
     step: usize,
     point: usize,
-) -> Cursor {
-    let at = trial_tools::reading::expect_size(line, c, unit);
-    let touched = trial_tools::reading::expect_size(line, at, found);
-    let k = trial_tools::reading::expect_size(line, touched, step);
-    trial_tools::reading::expect_size(line, k, point)
 }
 
-fn expect_read(line: &[u8], c: Cursor, k: KerbRead) -> Cursor {
-    match k {
-        KerbRead::Vertices(n) => expect_three(line, c, 0, 0, n),
-        KerbRead::RefusedAt(number, place) => expect_three(line, c, number, place, 0),
-        KerbRead::Refused(number) => expect_three(line, c, number, 0, 0),
+fn touch_at(step: usize, point: usize) -> Touch {
+    Touch {
+        unit: 0,
+        found: 1,
+        step,
+        point,
     }
 }
 
-fn read_into(line: &[u8], c: Cursor, geometry: &[u8], xs: &mut [i32], ys: &mut [i32]) -> Cursor {
-    let k = kerb_reader::read_kerb(geometry, xs, ys);
-    let told = expect_read(line, c, k);
-    let x = trial_calls::runs::expect_run(line, told, xs);
-    trial_calls::runs::expect_run(line, x, ys)
-}
-
-pub fn read(line: &[u8], c: Cursor) -> Cursor {
-    let mut geometry = empty_geometry();
-    let mut xs = trial_calls::runs::empty_run();
-    let mut ys = trial_calls::runs::empty_run();
-    let g = trial_calls::runs::read_bytes(line, c, &mut geometry);
-    let x = trial_calls::runs::read_run(line, g.next, &mut xs);
-    let y = trial_calls::runs::read_run(line, x.next, &mut ys);
-    let k = g.count;
-    let i = x.count;
-    let j = y.count;
-    let told = trial_tools::reading::equals_sign(line, y.next);
-    read_into(line, told, &geometry[..k], &mut xs[..i], &mut ys[..j])
-}
-
-fn expect_report(line: &[u8], c: Cursor, r: KerbReport) -> Cursor {
-    match r {
-        KerbReport::Nothing => {
-            let n = trial_tools::reading::expect_size(line, c, 0);
-            expect_touch(line, n, 0, 0, 0, 0)
-        }
-        KerbReport::Touch(step, point) => {
-            let n = trial_tools::reading::expect_size(line, c, 0);
-            expect_touch(line, n, 0, 1, step, point)
-        }
-        KerbReport::Stopped(number, unit, step) => {
-            let n = trial_tools::reading::expect_size(line, c, number as usize);
-            expect_touch(line, n, unit, 0, step, 0)
-        }
-        KerbReport::Refused(number) => {
-            let n = trial_tools::reading::expect_size(line, c, number as usize);
-            expect_touch(line, n, 0, 0, 0, 0)
-        }
+fn stop_at(unit: usize, step: usize) -> Touch {
+    Touch {
+        unit,
+        found: 0,
+        step,
+        point: 0,
     }
 }
 
-// The kerb of a report, and what was answered.
-fn report_over(
-    line: &[u8],
-    c: Cursor,
-    w: Walk,
-    asked: usize,
-    xs: &[i32],
-    ys: &[i32],
-    gxs: &[i32],
-    gys: &[i32],
-) -> Cursor {
-    let mut kerb_xs = trial_calls::runs::empty_run();
-    let mut kerb_ys = trial_calls::runs::empty_run();
-    let n = trial_tools::reading::read_size(line, c);
-    let x = trial_calls::runs::read_run(line, n.next, &mut kerb_xs);
-    let y = trial_calls::runs::read_run(line, x.next, &mut kerb_ys);
-    let i = x.count;
-    let j = y.count;
-    let told = trial_tools::reading::equals_sign(line, y.next);
-    let r = kerb_report::report(
-        w,
-        asked,
-        xs,
-        ys,
-        gxs,
-        gys,
-        n.value,
-        &kerb_xs[..i],
-        &kerb_ys[..j],
-    );
-    expect_report(line, told, r)
+fn read_touch(line: &mut Line<'_>) -> Option<Touch> {
+    Some(Touch {
+        unit: line.number()?,
+        found: line.number()?,
+        step: line.number()?,
+        point: line.number()?,
+    })
 }
 
-pub fn report(line: &[u8], c: Cursor) -> Cursor {
-    let mut xs = trial_calls::runs::empty_run();
-    let mut ys = trial_calls::runs::empty_run();
-    let mut gxs = trial_calls::runs::empty_run();
-    let mut gys = trial_calls::runs::empty_run();
-    let w = trial_tools::arguments::read_walk(line, c);
-    let asked = trial_tools::reading::read_size(line, w.next);
-    let x = trial_calls::runs::read_run(line, asked.next, &mut xs);
-    let y = trial_calls::runs::read_run(line, x.next, &mut ys);
-    let gx = trial_calls::runs::read_run(line, y.next, &mut gxs);
-    let gy = trial_calls::runs::read_run(line, gx.next, &mut gys);
-    let i = x.count;
-    let j = y.count;
-    let k = gx.count;
-    let l = gy.count;
-    report_over(
-        line,
-        gy.next,
-        w.walk,
-        asked.value,
-        &xs[..i],
-        &ys[..j],
-        &gxs[..k],
-        &gys[..l],
-    )
-}
-
-fn expect_kerbed(line: &[u8], c: Cursor, k: Kerbed) -> Cursor {
-    match k {
-        Kerbed::Nothing => {
-            let n = trial_tools::reading::expect_size(line, c, 0);
-            let p = trial_tools::reading::expect_size(line, n, 0);
-            expect_touch(line, p, 0, 0, 0, 0)
-        }
-        Kerbed::Touch(step, point) => {
-            let n = trial_tools::reading::expect_size(line, c, 0);
-            let p = trial_tools::reading::expect_size(line, n, 0);
-            expect_touch(line, p, 0, 1, step, point)
-        }
-        Kerbed::Stopped(number, unit, step) => {
-            let n = trial_tools::reading::expect_size(line, c, number as usize);
-            let p = trial_tools::reading::expect_size(line, n, 0);
-            expect_touch(line, p, unit, 0, step, 0)
-        }
-        Kerbed::Refused(number, byte) => {
-            let n = trial_tools::reading::expect_size(line, c, number as usize);
-            let p = trial_tools::reading::expect_size(line, n, byte);
-            expect_touch(line, p, 0, 0, 0, 0)
-        }
+// A refusal's number or 0, and the touch.
+fn told_report(report: KerbReport) -> (u8, Touch) {
+    match report {
+        KerbReport::Nothing => (0, Touch::default()),
+        KerbReport::Touch(step, point) => (0, touch_at(step, point)),
+        KerbReport::Stopped(number, unit, step) => (number, stop_at(unit, step)),
+        KerbReport::Refused(number) => (number, Touch::default()),
     }
 }
 
-pub fn check_ticks(line: &[u8], c: Cursor) -> Cursor {
-    let mut job = trial_calls::runs::empty_bytes();
-    let mut xs = trial_calls::runs::empty_run();
-    let mut ys = trial_calls::runs::empty_run();
-    let b = trial_calls::runs::read_bytes(line, c, &mut job);
-    let n = trial_tools::reading::read_size(line, b.next);
-    let x = trial_calls::runs::read_run(line, n.next, &mut xs);
-    let y = trial_calls::runs::read_run(line, x.next, &mut ys);
-    let k = b.count;
-    let i = x.count;
-    let j = y.count;
-    let told = trial_tools::reading::equals_sign(line, y.next);
-    let answer = kerbed::check_ticks(&job[..k], n.value, &xs[..i], &ys[..j]);
-    expect_kerbed(line, told, answer)
+pub fn report(line: &mut Line<'_>) -> Option<()> {
+    let mut path_arrays = PathArrays::empty();
+    let mut kerb_xs = [0i32; ROOM];
+    let mut kerb_ys = [0i32; ROOM];
+    let walk = line.walk()?;
+    let asked = line.number()?;
+    let PathRoom { xs, ys, gxs, gys } = path_arrays.read(line)?;
+    let vertices = line.number()?;
+    let kerb_xs = line.run(&mut kerb_xs)?;
+    let kerb_ys = line.run(&mut kerb_ys)?;
+    line.equals_sign()?;
+    let report = kerb_report::report(walk, asked, xs, ys, gxs, gys, vertices, kerb_xs, kerb_ys);
+    let (number, touch) = told_report(report);
+    same(line.number()?, number)?;
+    same(read_touch(line)?, touch)
 }
 
-pub fn check_geometry(line: &[u8], c: Cursor) -> Cursor {
-    let mut job = trial_calls::runs::empty_bytes();
-    let mut geometry = empty_geometry();
-    let b = trial_calls::runs::read_bytes(line, c, &mut job);
-    let g = trial_calls::runs::read_bytes(line, b.next, &mut geometry);
-    let i = b.count;
-    let k = g.count;
-    let told = trial_tools::reading::equals_sign(line, g.next);
-    let answer = kerbed::check_geometry(&job[..i], &geometry[..k]);
-    expect_kerbed(line, told, answer)
+// A refusal's number or 0, the byte where it is placed, and the touch.
+fn told_kerbed(kerbed: Kerbed) -> (u8, usize, Touch) {
+    match kerbed {
+        Kerbed::Nothing => (0, 0, Touch::default()),
+        Kerbed::Touch(step, point) => (0, 0, touch_at(step, point)),
+        Kerbed::Stopped(number, unit, step) => (number, 0, stop_at(unit, step)),
+        Kerbed::Refused(number, byte) => (number, byte, Touch::default()),
+    }
+}
+
+fn expect_kerbed(line: &mut Line<'_>, kerbed: Kerbed) -> Option<()> {
+    let (number, byte, touch) = told_kerbed(kerbed);
+    same(line.number()?, number)?;
+    same(line.number()?, byte)?;
+    same(read_touch(line)?, touch)
+}
+
+pub fn check_ticks(line: &mut Line<'_>) -> Option<()> {
+    let mut job = [0u8; ROOM];
+    let mut xs = [0i32; ROOM];
+    let mut ys = [0i32; ROOM];
+    let job = line.run(&mut job)?;
+    let vertices = line.number()?;
+    let xs = line.run(&mut xs)?;
+    let ys = line.run(&mut ys)?;
+    line.equals_sign()?;
+    expect_kerbed(line, kerbed::check_ticks(job, vertices, xs, ys))
+}
+
+pub fn check_geometry(line: &mut Line<'_>) -> Option<()> {
+    let mut job = [0u8; ROOM];
+    let mut geometry = [0u8; GEOMETRY_ROOM];
+    let job = line.run(&mut job)?;
+    let geometry = line.run(&mut geometry)?;
+    line.equals_sign()?;
+    expect_kerbed(line, kerbed::check_geometry(job, geometry))
 }

@@ -5,127 +5,113 @@
 
 mod calls;
 
-ghost use Rattle.std.specs.Prelude.{◌≡◌, ◌<◌, length};
+use trial_tools::counts::Count;
+use trial_tools::reading::{Line, first_number};
+use trial_tools::tables;
 
-use trial_tools::reading::Cursor;
-use trial_tools::{printing, tables};
-
-// The calls of each kind, 0 for none such, and how many of them answer as they should; the first line that does not, 0 for none.
 #[derive(Clone, Copy)]
-pub struct Tally {
-    pub all: [u64; 5],
-    pub right: [u64; 5],
-    pub wrong: u64,
+enum Kind {
+    Read,
+    Report,
+    CheckTicks,
+    CheckGeometry,
 }
 
-fn make_call(line: &[u8], kind: usize, c: Cursor) -> Cursor {
+// The calls of each kind, and the lines of no known kind.
+#[derive(Clone, Copy, Default)]
+struct Counts {
+    read: Count,
+    report: Count,
+    check_ticks: Count,
+    check_geometry: Count,
+    other: Count,
+}
+
+impl Counts {
+    fn enter(&mut self, kind: Option<Kind>, line: u64, answer: Option<()>) {
+        match kind {
+            Some(Kind::Read) => self.read.enter(line, answer),
+            Some(Kind::Report) => self.report.enter(line, answer),
+            Some(Kind::CheckTicks) => self.check_ticks.enter(line, answer),
+            Some(Kind::CheckGeometry) => self.check_geometry.enter(line, answer),
+            None => self.other.enter(line, answer),
+        }
+    }
+
+    // The first line that does not answer as it should.
+    fn first_wrong(&self) -> Option<u64> {
+        [
+            self.read,
+            self.report,
+            self.check_ticks,
+            self.check_geometry,
+            self.other,
+        ]
+        .iter()
+        .filter_map(|count| count.first_wrong)
+        .min()
+    }
+}
+
+// A line counts among the calls of the kind that it begins with, even where it goes wrong right behind that.
+fn kind_of(line: &[u8]) -> Option<Kind> {
+    match first_number(line)? {
+        1 => Some(Kind::Read),
+        2 => Some(Kind::Report),
+        3 => Some(Kind::CheckTicks),
+        4 => Some(Kind::CheckGeometry),
+        _ => None,
+    }
+}
+
+fn make_call(kind: Kind, line: &mut Line<'_>) -> Option<()> {
     match kind {
-        1 => calls::read(line, c),
-        2 => calls::report(line, c),
-        3 => calls::check_ticks(line, c),
-        4 => calls::check_geometry(line, c),
-        _ => trial_tools::reading::tested(c, false),
+        Kind::Read => calls::read(line),
+        Kind::Report => calls::report(line),
+        Kind::CheckTicks => calls::check_ticks(line),
+        Kind::CheckGeometry => calls::check_geometry(line),
     }
 }
 
-// Lines of no known kind are counted under 0.
-fn known(kind: usize) -> usize
-    ensures { result < 5 }
-{
-    if kind < 5 { kind } else { 0 }
+// Something, where the call of a line answers as it should.
+fn try_line(kind: Option<Kind>, line: &[u8]) -> Option<()> {
+    let mut line = Line::of(line)?;
+    let _kind: usize = line.number()?;
+    make_call(kind?, &mut line)?;
+    line.end()
 }
 
-fn counted(t: Tally, kind: usize, right: bool, line: u64) -> Tally {
-    let k = known(kind);
-    let mut all = t.all;
-    let mut good = t.right;
-    all[k] = std::num::wrapping_add_u64(all[k], 1);
-    if right {
-        good[k] = std::num::wrapping_add_u64(good[k], 1);
-        return Tally {
-            all,
-            right: good,
-            wrong: t.wrong,
-        };
+fn try_lines(text: &[u8]) -> Counts {
+    let mut counts = Counts::default();
+    for (number, line) in (1u64..).zip(text.split_inclusive(|b| *b == b'\n')) {
+        let kind = kind_of(line);
+        counts.enter(kind, number, try_line(kind, line));
     }
-    let first = t.wrong == 0;
-    Tally {
-        all,
-        right: good,
-        wrong: if first { line } else { t.wrong },
+    counts
+}
+
+// What cannot be written is lost: a trial has nowhere else to tell it.
+fn report(rt: &impl Print, name: &str, count: Count) {
+    let _written = println!(rt; "{name}: {count}");
+}
+
+fn report_all(rt: &impl Print, counts: Counts) {
+    report(rt, "reading a geometry", counts.read);
+    report(rt, "report", counts.report);
+    report(rt, "report from a job and ticks", counts.check_ticks);
+    report(
+        rt,
+        "report from a job and a geometry",
+        counts.check_geometry,
+    );
+    if let Some(line) = counts.first_wrong() {
+        let _written = println!(rt; "the first that does not is on line {line}");
     }
-}
-
-// The call of a line; numbers left over behind its answer are a fault too.
-fn try_line(t: Tally, line: &[u8], number: u64) -> Tally {
-    let start = Cursor { at: 0, right: true };
-    let kind = trial_tools::reading::read_size(line, start);
-    let end = make_call(line, kind.value, kind.next);
-    counted(t, kind.value, end.right & (end.at == line.len()), number)
-}
-
-fn try_lines(text: &[u8]) -> Tally {
-    let mut tally = Tally {
-        all: [0; 5],
-        right: [0; 5],
-        wrong: 0,
-    };
-    let mut number: u64 = 0;
-    let mut at: usize = 0;
-    while at < text.len() {
-        let l = trial_tools::lines::line_at(text, at);
-        let end = l.end;
-        number += 1;
-        let next = try_line(tally, &text[at..end], number);
-        tally = next;
-        at = l.next;
-    }
-    tally
-}
-
-fn report(rt: &impl Print, name: &[u8], right: u64, all: u64) {
-    printing::write_all(rt, name);
-    printing::write_all(rt, b": ");
-    printing::print_decimal(rt, right);
-    printing::write_all(rt, b" of ");
-    printing::print_decimal(rt, all);
-    printing::write_all(rt, b" calls answer as they should\n");
-}
-
-fn report_all(rt: &impl Print, t: Tally) {
-    let all = t.all;
-    let right = t.right;
-    report(rt, b"reading a geometry", right[1], all[1]);
-    report(rt, b"report", right[2], all[2]);
-    report(rt, b"report from a job and ticks", right[3], all[3]);
-    report(rt, b"report from a job and a geometry", right[4], all[4]);
-    if t.wrong != 0 {
-        printing::write_all(rt, b"the first that does not is on line ");
-        printing::print_decimal(rt, t.wrong);
-        printing::write_all(rt, b"\n");
-    }
-}
-
-// Room for the whole table.
-fn empty_text() -> [u8; 2000000]
-    ensures { 2000000 ≡ length result }
-{
-    [0; 2000000]
 }
 
 fn main(rt: HostRuntime) {
-    let name = "kerbs.txt";
-    let mut text = empty_text();
-    let n = match tables::read_table(&rt, name, &mut text) {
-        Ok(n) => n,
-        Err(e) => {
-            printing::fail(&rt, name, e);
-            return;
-        }
-    };
-    if n == 2000000 {
-        printing::write_all(&rt, b"the table does not fit\n");
-        return;
+    let mut room = tables::room::<2000000>();
+    if let Some(text) = tables::whole_table(&rt, "kerbs.txt", &mut room) {
+        report_all(&rt, try_lines(text));
     }
-    report_all(&rt, try_lines(&text[..n]));
 }

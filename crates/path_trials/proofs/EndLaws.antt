@@ -3,14 +3,16 @@ use Prim.Native.Nat.{ℕ, ◌-◌, ◌≤◌, ◌<◌}
 use mathlib.Core.Path.{◌≡◌, refl, sym, ◌∙◌, ap, subst}
 use native.Mathlib.Omega.{arith}
 use lib.ListN.{length, get_or}
+use Rattle.std.specs.Prelude.{Result, Ok, Err, IfOk}
+use Rattle.refusal.specs.Numbers.{Answer, answered, refused, as_answer}
+use Rattle.refusal.specs.declared.Fault.{Fault}
+use Rattle.path_trials.specs.declared.PathEnd.{PathEnd}
 use lib.IntN.{pos}
 use Rattle.exact.proofs.Sizes.{within_more, within_sub}
 use Rattle.plane.specs.declared.Vec2.{Vec2}
 use Rattle.plane.specs.Vector.{minus, Moderate, BothModerate}
 use Rattle.job.specs.declared.Job.{Job}
 use Rattle.path.specs.declared.Station.{Station}
-use Rattle.path.specs.declared.Laid.{Laid}
-use Rattle.path.specs.declared.Laid.TheVariants as L
 use Rattle.path.specs.Stations.{stations}
 use Rattle.path.specs.Laying.{PathRuns, station_at, lay_answer, laid_runs, LayEnsures}
 use Rattle.path.specs.LaidPath.{job_station}
@@ -22,7 +24,7 @@ use Rattle.path.proofs.SoundLaws.{sound_path}
 use Rattle.path_trials.specs.Ends.{end_of, Measurable, BothMeasurable}
 
 -- stations were answered
-module _ (j : Job) (r : PathRuns) (n : ℕ) (q : PathRuns) (t : LayEnsures j r (L.Stations n) q) where
+module _ (j : Job) (r : PathRuns) (n : ℕ) (q : PathRuns) (t : LayEnsures j r (Ok n) q) where
   pub some : 1 ≤ n
   some = omega (arith, (path_in_runs j r n q t).count, stations_count j)
 
@@ -33,22 +35,27 @@ module _ (j : Job) (r : PathRuns) (n : ℕ) (q : PathRuns) (t : LayEnsures j r (
       let l : SameLengths q r = subst (λ (z : PathRuns). SameLengths z r) (sym s.3) (written_lengths (stations j) r) in
       (omega (arith, some, s.2, k.0, l.xs), omega (arith, some, s.2, k.1, l.ys))
 
-  pub end_read : record { stations = n; position = record { x = get_or q.xs (n - 1) (pos 0); y = get_or q.ys (n - 1) (pos 0) } } ≡ end_of j (lay_answer j r)
+  abbrev ended : Station → Answer PathEnd
+  ended z = answered (record { stations = n; position = z.position })
+
+  pub end_read : answered (record { stations = n; position = record { x = get_or q.xs (n - 1) (pos 0); y = get_or q.ys (n - 1) (pos 0) } }) ≡ end_of j (lay_answer j r)
   end_read =
       let e : station_at q (n - 1) ≡ job_station j (n - 1) = (path_in_runs j r n q t).entries (n - 1) (omega (arith, some)) in
-      ap (λ (z : Station). record { stations = n; position = z.position }) e ∙ ap (end_of j) t.answered
+      ap ended e ∙ ap (end_of j) t.answered
 
 -- where a path ends can be measured from
-pub end_measurable : (j : Job) (r : PathRuns) → Measurable (end_of j (lay_answer j r)).position
-end_measurable j r = by (lay_answer j r) refl
+pub end_measurable : (j : Job) (r : PathRuns) (e : Result PathEnd Fault) → as_answer e ≡ end_of j (lay_answer j r) → IfOk e (λ e. Measurable e.position)
+end_measurable j r e h = by (lay_answer j r) refl e h
   where
-    by : (a : Laid) → lay_answer j r ≡ a → Measurable (end_of j a).position
-    by (L.Stations n) e =
-        let t : LayEnsures j r (L.Stations n) (laid_runs (lay_answer j r) j r) = record { answered = sym e; runs = refl } in
+    by : (a : Answer ℕ) → lay_answer j r ≡ a → (e : Result PathEnd Fault) → as_answer e ≡ end_of j a → IfOk e (λ e. Measurable e.position)
+    by (answered n) h (Ok e) k =
+        let t : LayEnsures j r (Ok n) (laid_runs (lay_answer j r) j r) = record { answered = sym h; runs = refl } in
         let s = stations_answered j r n (laid_runs (lay_answer j r) j r) t in
         let p = (sound_path j s.0).sound (n - 1) (omega (arith, some j r n (laid_runs (lay_answer j r) j r) t, s.2)) in
-        record { x = p.x; y = p.y }
-    by (L.Refused n) e = record { x = record { size = omega arith }; y = record { size = omega arith } }
+        let z : record { stations = n; position = (job_station j (n - 1)).position } ≡ e = cc in
+        subst (λ (e : PathEnd). Measurable e.position) z (record { x = p.x; y = p.y })
+    by (refused n) h (Ok e) k = cc
+    by a h (Err f) k = tt
 
 module _ (a b : Vec2) (t : BothMeasurable a b) where
   moderate : {v : Vec2} → Measurable v → Moderate v

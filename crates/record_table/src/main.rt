@@ -4,166 +4,98 @@
 
 mod records;
 
-use crate::records::Case;
+use crate::records::{Case, Field};
 use job::Job;
-use job_reader::ReadAnswer;
-use job_writer::Wrote;
-use trial_tools::{printing, tables};
-
-// Whether a run starts with those bytes.
-fn starts_with(run: &[u8], bytes: &[u8]) -> bool {
-    if run.len() < bytes.len() {
-        return false;
-    }
-    let mut i: usize = 0;
-    while i < bytes.len() {
-        if run[i] != bytes[i] {
-            return false;
-        }
-        i += 1;
-    }
-    true
-}
+use refusal::Fault;
+use std::str;
+use trial_tools::counts::Count;
+use trial_tools::tables;
 
 // No record of the table fits 20 bytes: 28, and nothing is written.
 fn has_no_room(j: Job) -> bool {
     let mut run = [7u8; 20];
-    let w = job_writer::write_job(j, &mut run);
-    let Wrote::Refused(number) = w else {
-        return false;
-    };
-    (number == 28) & starts_with(&run, &[7u8; 20])
+    let wrote = job_writer::write_job(j, &mut run);
+    matches!(wrote, Err(Fault::NoRoom)) && run == [7; 20]
 }
 
 // The job is written as the bytes that it was read from, and the byte after them stays.
 fn writes_back(j: Job, bytes: &[u8]) -> bool {
-    let mut run = records::sevens();
-    let w = job_writer::write_job(j, &mut run);
-    let Wrote::Bytes(n) = w else {
+    let mut run = [7u8; 1024];
+    let Ok(n) = job_writer::write_job(j, &mut run) else {
         return false;
     };
-    if n != bytes.len() {
-        return false;
-    }
-    if 1024 <= n {
-        return false;
-    }
-    (run[n] == 7) & starts_with(&run, bytes)
+    n == bytes.len() && run.starts_with(bytes) && run.get(n) == Some(&7)
 }
 
 // Read as the case says, and written back where it is accepted.
-fn read_right(c: Case, bytes: &[u8], placed: usize) -> bool {
-    let r = job_reader::read_job(bytes);
-    let a = r.answer;
-    match a {
-        ReadAnswer::Accepted => (c.number == 0) & (has_no_room(r.job) & writes_back(r.job, bytes)),
-        ReadAnswer::Refused(number, place) => (number as u32 == c.number) & (place == placed),
-    }
-}
-
 fn holds(c: Case) -> bool {
-    let t = records::record_of(c);
-    let n = t.at;
-    let bytes = t.bytes;
-    if bytes.len() < n {
-        return false;
+    let record = records::record_of(c);
+    match job_reader::read_job(record.bytes()) {
+        Ok(job) => c.number == 0 && has_no_room(job) && writes_back(job, record.bytes()),
+        Err(refusal) => refusal.fault.number() == c.number && refusal.place == record.place,
     }
-    read_right(c, &bytes[..n], t.place)
 }
 
-// A number of the table, and the position after it.
-#[derive(Clone, Copy)]
-pub struct Parsed {
-    pub size: u32,
-    pub negative: bool,
-    pub next: usize,
+// The numbers of a case, none for one that cannot be read.
+type Numbers = [Option<i32>; 7];
+
+fn case_of(numbers: Numbers) -> Option<Case> {
+    let [units, elements, field, index, value, number, placed] = numbers;
+    Some(Case {
+        units: units?,
+        elements: elements?,
+        field: field_of(field?)?,
+        index: index?,
+        value: value?,
+        number: u8::try_from(number?).ok()?,
+        placed: field_of(placed?)?,
+    })
 }
 
-// Where the next digit stands.
-fn digit_from(s: &[u8], from: usize) -> usize {
-    let mut i = from;
-    while i < s.len() {
-        let b = s[i];
-        if (48 <= b) & (b <= 57) {
-            return i;
+fn field_of(number: i32) -> Option<Field> {
+    Field::numbered(usize::try_from(number).ok()?)
+}
+
+fn try_case(numbers: Numbers) -> Option<()> {
+    holds(case_of(numbers)?).then_some(())
+}
+
+// Whether a byte can stand in a number; whatever else stands between numbers is passed over.
+fn is_of_number(b: u8) -> bool {
+    b.is_ascii_digit() || b == b'-'
+}
+
+fn number_in(word: &[u8]) -> Option<i32> {
+    str::from_utf8(word).ok()?.parse().ok()
+}
+
+fn try_cases(table: &[u8]) -> Count {
+    let mut count = Count::default();
+    let mut numbers = [None; 7];
+    let mut read = 0;
+    for word in table.split(|b| !is_of_number(*b)) {
+        if !word.iter().any(|b| b.is_ascii_digit()) {
+            continue;
         }
-        i += 1;
-    }
-    i
-}
-
-// Whether a minus stands right before a place.
-fn minus_before(s: &[u8], at: usize) -> bool {
-    if 0 < at {
-        if at <= s.len() {
-            return s[at - 1] == 45;
+        numbers[read] = number_in(word);
+        read += 1;
+        if read == numbers.len() {
+            count.enter(0, try_case(numbers));
+            read = 0;
         }
     }
-    false
-}
-
-// The next number: digits, and perhaps a minus right before them; whatever else stands before it is passed over, and one byte behind it.
-fn parse(s: &[u8], from: usize) -> Parsed {
-    let start = digit_from(s, from);
-    let d = trial_tools::reading::read_digits(s, start);
-    let at = d.at;
-    Parsed {
-        size: (d.size % 1000000000) as u32,
-        negative: minus_before(s, start),
-        next: if at < s.len() { at + 1 } else { at },
+    // A case that is cut short does not hold.
+    if read != 0 {
+        count.enter(0, None);
     }
-}
-
-// Whether a case of the table holds, and where the next one stands.
-#[derive(Clone, Copy)]
-pub struct Tried {
-    pub holds: bool,
-    pub next: usize,
-}
-
-fn try_case(s: &[u8], from: usize) -> Tried {
-    let units = parse(s, from);
-    let elements = parse(s, units.next);
-    let kind = parse(s, elements.next);
-    let index = parse(s, kind.next);
-    let value = parse(s, index.next);
-    let number = parse(s, value.next);
-    let placed = parse(s, number.next);
-    let c = Case {
-        units: units.size,
-        elements: elements.size,
-        kind: kind.size,
-        index: index.size,
-        size: value.size,
-        negative: value.negative,
-        number: number.size,
-        placed: placed.size,
-    };
-    Tried {
-        holds: holds(c),
-        next: placed.next,
-    }
+    count
 }
 
 fn main(rt: HostRuntime) {
     let mut table = [0u8; 65536];
-    let n = tables::read_full(&mut rt.reader(), &mut table);
-    let mut right: u64 = 0;
-    let mut all: u64 = 0;
-    let mut at: usize = 0;
-    while all < 200 {
-        if n <= at {
-            break;
-        }
-        let t = try_case(&table, at);
-        if t.holds {
-            right += 1;
-        }
-        all += 1;
-        at = t.next;
-    }
-    printing::print_decimal(&rt, right);
-    printing::write_all(&rt, b" of ");
-    printing::print_decimal(&rt, all);
-    printing::write_all(&rt, b" ends of the field table hold\n");
+    let length = tables::read_full(&mut rt.reader(), &mut table);
+    let count = try_cases(&table[..length]);
+    let right = count.right;
+    let all = count.all;
+    let _written = println!(&rt; "{right} of {all} ends of the field table hold");
 }

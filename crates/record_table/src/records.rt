@@ -1,185 +1,180 @@
 // The record of a case: right in every field but one.
+ghost use Rattle.std.specs.Prelude.{◌≤◌};
 
-// The fields of a record, as the cases number them.
-const UNITS: u32 = 0;
+// The fields of a record, in the order in which the cases number them.
+#[derive(Clone, Copy, PartialEq, Eq)]
+pub enum Field {
+    Units,
+    Wheelbase,
+    Hitch,
+    Fold,
+    Overhang,
+    Front,
+    Rear,
+    X,
+    Y,
+    Gx,
+    Gy,
+    Step,
+    Elements,
+    Length,
+    Radius,
+    FrontOverhang,
+    RearOverhang,
+    HalfWidth,
+}
 
-const WHEELBASE: u32 = 1;
+const FIELDS: [Field; 18] = [
+    Field::Units,
+    Field::Wheelbase,
+    Field::Hitch,
+    Field::Fold,
+    Field::Overhang,
+    Field::Front,
+    Field::Rear,
+    Field::X,
+    Field::Y,
+    Field::Gx,
+    Field::Gy,
+    Field::Step,
+    Field::Elements,
+    Field::Length,
+    Field::Radius,
+    Field::FrontOverhang,
+    Field::RearOverhang,
+    Field::HalfWidth,
+];
 
-const HITCH: u32 = 2;
+impl Field {
+    pub fn numbered(number: usize) -> Option<Field> {
+        FIELDS.get(number).copied()
+    }
 
-const FOLD: u32 = 3;
+    fn is_signed(self) -> bool {
+        matches!(
+            self,
+            Field::Hitch | Field::Fold | Field::X | Field::Y | Field::Gx | Field::Gy | Field::Radius
+        )
+    }
 
-const OVERHANG: u32 = 4;
+    // The number that a value is written as: a signed one is doubled, less one where it is negative.
+    fn written(self, value: i32) -> u64 {
+        let size = u64::from(value.unsigned_abs());
+        if !self.is_signed() {
+            return size;
+        }
+        if value < 0 { 2 * size - 1 } else { 2 * size }
+    }
+}
 
-const FRONT: u32 = 5;
-
-const REAR: u32 = 6;
-
-const X: u32 = 7;
-
-const Y: u32 = 8;
-
-const GX: u32 = 9;
-
-const GY: u32 = 10;
-
-const STEP: u32 = 11;
-
-const ELEMENTS: u32 = 12;
-
-const LENGTH: u32 = 13;
-
-const RADIUS: u32 = 14;
-
-const FRONT_OVERHANG: u32 = 15;
-
-const REAR_OVERHANG: u32 = 16;
-
-const HALF_WIDTH: u32 = 17;
-
-// A record of so many units, 10 more in a long job, and of so many elements, whose field of a kind, at an index, holds a value; then the refusal's
-// number, 0 for none, and the kind of the field where it is placed.
+// A record of so many units, 10 more in a long job, and of so many elements, whose field, at an index, holds a value; then the refusal's number,
+// 0 for none, and the field where it is placed.
 #[derive(Clone, Copy)]
 pub struct Case {
-    pub units: u32,
-    pub elements: u32,
-    pub kind: u32,
-    pub index: u32,
-    pub size: u32,
-    pub negative: bool,
-    pub number: u32,
-    pub placed: u32,
+    pub units: i32,
+    pub elements: i32,
+    pub field: Field,
+    pub index: i32,
+    pub value: i32,
+    pub number: u8,
+    pub placed: Field,
 }
+
+impl Case {
+    fn is_long(self) -> bool {
+        10 < self.units
+    }
+}
+
+const ROOM: usize = 1024;
 
 // A record in the making, and where the field starts that a refusal is placed at.
 #[derive(Clone, Copy)]
-pub struct Text {
-    pub bytes: [u8; 1024],
-    pub at: usize,
+pub struct Record {
+    bytes: [u8; ROOM],
+    length: usize,
     pub place: usize,
+    ghost in_room: { length ≤ 1024 },
 }
 
-// A run of sevens, so that a byte that was not written shows.
-pub fn sevens() -> [u8; 1024] {
-    [7u8; 1024]
-}
-
-fn put_byte(t: Text, b: u8) -> Text {
-    let at = t.at;
-    if 1024 <= at {
-        return t;
-    }
-    let mut next = t;
-    next.bytes[at] = b;
-    next.at = at + 1;
-    next
-}
-
-fn put_number(t: Text, x: u32) -> Text {
-    let mut out = t;
-    let mut y = x;
-    while 128 <= y {
-        out = put_byte(out, (y % 128 + 128) as u8);
-        y = y / 128;
-    }
-    put_byte(out, y as u8)
-}
-
-fn is_signed(kind: u32) -> bool {
-    let vehicle = (kind == HITCH) | (kind == FOLD);
-    let start = (kind == X) | (kind == Y) | (kind == GX) | (kind == GY);
-    vehicle | start | (kind == RADIUS)
-}
-
-// The field of a number, which has 31 bits.
-fn field_of(kind: u32, size: u32, negative: bool) -> u32 {
-    if !is_signed(kind) {
-        return size;
-    }
-    let double = size % 2147483648 * 2;
-    if negative {
-        if 0 < double {
-            return double - 1;
+impl Record {
+    fn empty() -> Record {
+        Record {
+            bytes: [0; ROOM],
+            length: 0,
+            place: 0,
         }
     }
-    double
-}
 
-// The case's value where it is the field in question, else the usual one.
-fn put_field(t: Text, c: Case, kind: u32, index: u32, usual: u32) -> Text {
-    let mut out = t;
-    let same = (c.kind == c.placed) & (index == c.index);
-    let other = (c.kind != c.placed) & (index == 0);
-    if (kind == c.placed) & (same | other) {
-        out.place = out.at;
+    pub fn bytes(&self) -> &[u8] {
+        &self.bytes[..self.length]
     }
-    if (kind == c.kind) & (index == c.index) {
-        return put_number(out, field_of(kind, c.size, c.negative));
+
+    // What does not fit is left out.
+    fn put_byte(&mut self, b: u8) {
+        if self.length < ROOM {
+            self.bytes[self.length] = b;
+            self.length += 1;
+        }
     }
-    put_number(out, field_of(kind, usual, false))
-}
 
-fn is_long(c: Case) -> bool {
-    10 < c.units
-}
-
-// A unit's body, which only a long job has.
-fn put_body(t: Text, c: Case, index: u32) -> Text {
-    if !is_long(c) {
-        return t;
+    fn put_number(&mut self, number: u64) {
+        let mut rest = number;
+        // Kept: the number itself tells how many groups it takes, so no iterator steps here.
+        while 128 <= rest {
+            self.put_byte((rest % 128 + 128) as u8);
+            rest /= 128;
+        }
+        self.put_byte(rest as u8);
     }
-    let mut out = put_field(t, c, FRONT_OVERHANG, index, 9000);
-    out = put_field(out, c, REAR_OVERHANG, index, 8000);
-    put_field(out, c, HALF_WIDTH, index, 12500)
-}
 
-// The last unit has no hitch, the first no fold limit.
-fn put_units(t: Text, c: Case) -> Text {
-    let count = c.units % 10;
-    let mut out = t;
-    let mut i: u32 = 0;
-    while i < count {
-        let hitch: u32 = if i + 1 == count { 0 } else { 100 };
-        let fold: u32 = if i == 0 { 0 } else { 100 };
-        out = put_field(out, c, WHEELBASE, i, 50000);
-        out = put_field(out, c, HITCH, i, hitch);
-        out = put_field(out, c, FOLD, i, fold);
-        out = put_body(out, c, i);
-        i += 1;
+    // The case's value where it is the field in question, else the usual one.
+    fn put_field(&mut self, c: Case, field: Field, index: i32, usual: i32) {
+        let wanted = if c.field == c.placed { c.index } else { 0 };
+        if field == c.placed && index == wanted {
+            self.place = self.length;
+        }
+        let is_case = field == c.field && index == c.index;
+        self.put_number(field.written(if is_case { c.value } else { usual }));
     }
-    out
-}
 
-fn put_elements(t: Text, c: Case) -> Text {
-    let count = c.elements;
-    let mut out = t;
-    let mut i: u32 = 0;
-    while i < count {
-        out = put_field(out, c, LENGTH, i, 65000);
-        out = put_field(out, c, RADIUS, i, 0);
-        i += 1;
+    // The last unit has no hitch, the first no fold limit; only a long job has bodies.
+    fn put_units(&mut self, c: Case) {
+        let count = c.units % 10;
+        for i in 0..count {
+            let is_last = i == count - 1;
+            self.put_field(c, Field::Wheelbase, i, 50000);
+            self.put_field(c, Field::Hitch, i, if is_last { 0 } else { 100 });
+            self.put_field(c, Field::Fold, i, if i == 0 { 0 } else { 100 });
+            if c.is_long() {
+                self.put_field(c, Field::FrontOverhang, i, 9000);
+                self.put_field(c, Field::RearOverhang, i, 8000);
+                self.put_field(c, Field::HalfWidth, i, 12500);
+            }
+        }
     }
-    out
+
+    fn put_elements(&mut self, c: Case) {
+        for i in 0..c.elements {
+            self.put_field(c, Field::Length, i, 65000);
+            self.put_field(c, Field::Radius, i, 0);
+        }
+    }
 }
 
-pub fn record_of(c: Case) -> Text {
-    let bytes = sevens();
-    let empty = Text {
-        bytes,
-        at: 0,
-        place: 0,
-    };
-    let overhang: u32 = if is_long(c) { 0 } else { 10000 };
-    let mut out = put_field(empty, c, UNITS, 0, c.units);
-    out = put_units(out, c);
-    out = put_field(out, c, OVERHANG, 0, overhang);
-    out = put_field(out, c, FRONT, 0, 12000);
-    out = put_field(out, c, REAR, 0, 12000);
-    out = put_field(out, c, X, 0, 0);
-    out = put_field(out, c, Y, 0, 0);
-    out = put_field(out, c, GX, 0, 0);
-    out = put_field(out, c, GY, 0, 1000000);
-    out = put_field(out, c, STEP, 0, 20000);
-    out = put_field(out, c, ELEMENTS, 0, c.elements);
-    put_elements(out, c)
+pub fn record_of(c: Case) -> Record {
+    let mut record = Record::empty();
+    record.put_field(c, Field::Units, 0, c.units);
+    record.put_units(c);
+    record.put_field(c, Field::Overhang, 0, if c.is_long() { 0 } else { 10000 });
+    record.put_field(c, Field::Front, 0, 12000);
+    record.put_field(c, Field::Rear, 0, 12000);
+    record.put_field(c, Field::X, 0, 0);
+    record.put_field(c, Field::Y, 0, 0);
+    record.put_field(c, Field::Gx, 0, 0);
+    record.put_field(c, Field::Gy, 0, 1000000);
+    record.put_field(c, Field::Step, 0, 20000);
+    record.put_field(c, Field::Elements, 0, c.elements);
+    record.put_elements(c);
+    record
 }

@@ -1,139 +1,71 @@
-// Lent runs of a line: a length, then as many entries.
-ghost use Rattle.std.specs.Prelude.{◌≡◌, length};
-ghost use Rattle.trial_calls.specs.Counted.{Counted};
-
+// The runs that a line lends to a call, in arrays of one entry more than a path has stations.
 use marks::Mark;
-use trial_tools::reading::Cursor;
+use path::PathRoom;
+use trial_tools::reading::Line;
 
-// How many entries stand at the start of an array.
-#[derive(Clone, Copy)]
-pub struct Run {
-    pub count: usize,
-    pub next: Cursor,
+pub const ROOM: usize = 2002;
+
+// Arrays for the runs of a path.
+#[derive(Drop)]
+pub struct PathArrays {
+    xs: [i32; ROOM],
+    ys: [i32; ROOM],
+    gxs: [i32; ROOM],
+    gys: [i32; ROOM],
 }
 
-// Room for one entry more than a path has stations.
-pub fn empty_run() -> [i32; 2002]
-    ensures { 2002 ≡ length result }
-{
-    [0; 2002]
-}
-
-pub fn empty_bytes() -> [u8; 2002]
-    ensures { 2002 ≡ length result }
-{
-    [0; 2002]
-}
-
-pub fn empty_marks() -> [Mark; 2002]
-    ensures { 2002 ≡ length result }
-{
-    [0; 2002]
-}
-
-pub fn read_run(line: &[u8], c: Cursor, run: &mut [i32]) -> Run
-    ensures { Counted result.count run.new }
-{
-    let n = trial_tools::reading::read_size(line, c);
-    let count = n.value;
-    if run.len() < count {
-        return Run {
-            count: 0,
-            next: trial_tools::reading::tested(n.next, false),
-        };
+impl PathArrays {
+    pub fn empty() -> PathArrays {
+        PathArrays {
+            xs: [0; ROOM],
+            ys: [0; ROOM],
+            gxs: [0; ROOM],
+            gys: [0; ROOM],
+        }
     }
-    let mut at = n.next;
-    let mut i: usize = 0;
-    while i < count {
-        let e = trial_tools::reading::read_signed(line, at);
-        let value = e.value;
-        run[i] = value;
-        at = e.next;
-        i += 1;
+
+    pub fn read(&mut self, line: &mut Line<'_>) -> Option<PathRoom<'_>> {
+        let PathArrays { xs, ys, gxs, gys } = self;
+        Some(PathRoom {
+            xs: line.run(xs)?,
+            ys: line.run(ys)?,
+            gxs: line.run(gxs)?,
+            gys: line.run(gys)?,
+        })
     }
-    Run { count, next: at }
 }
 
-pub fn read_bytes(line: &[u8], c: Cursor, run: &mut [u8]) -> Run
-    ensures { Counted result.count run.new }
-{
-    let n = trial_tools::reading::read_size(line, c);
-    let count = n.value;
-    if run.len() < count {
-        return Run {
-            count: 0,
-            next: trial_tools::reading::tested(n.next, false),
-        };
-    }
-    let mut at = n.next;
-    let mut i: usize = 0;
-    while i < count {
-        let e = trial_tools::reading::read_size(line, at);
-        let value = e.value;
-        run[i] = (value % 256) as u8;
-        at = trial_tools::reading::tested(e.next, value < 256);
-        i += 1;
-    }
-    Run { count, next: at }
+// Arrays for the runs that a walk writes.
+#[derive(Drop)]
+pub struct ReachArrays {
+    left: [i32; ROOM],
+    right: [i32; ROOM],
+    marks: [Mark; ROOM],
 }
 
-pub fn read_marks(line: &[u8], c: Cursor, run: &mut [Mark]) -> Run
-    ensures { Counted result.count run.new }
-{
-    let n = trial_tools::reading::read_size(line, c);
-    let count = n.value;
-    if run.len() < count {
-        return Run {
-            count: 0,
-            next: trial_tools::reading::tested(n.next, false),
-        };
-    }
-    let mut at = n.next;
-    let mut i: usize = 0;
-    while i < count {
-        let e = trial_tools::reading::read_natural(line, at);
-        let value = e.value;
-        run[i] = value;
-        at = e.next;
-        i += 1;
-    }
-    Run { count, next: at }
+// The runs that a walk writes.
+#[derive(Drop)]
+pub struct ReachRuns<'r> {
+    pub left: &'r mut [i32],
+    pub right: &'r mut [i32],
+    pub marks: &'r mut [Mark],
 }
 
-pub fn expect_run(line: &[u8], c: Cursor, run: &[i32]) -> Cursor {
-    let mut at = trial_tools::reading::expect_size(line, c, run.len());
-    let mut i: usize = 0;
-    while i < run.len() {
-        at = trial_tools::reading::expect_wide(line, at, exact::wide_signed(run[i]));
-        i += 1;
+impl ReachArrays {
+    pub fn empty() -> ReachArrays {
+        ReachArrays {
+            left: [0; ROOM],
+            right: [0; ROOM],
+            marks: [0; ROOM],
+        }
     }
-    at
-}
 
-fn size_of(b: u8) -> usize {
-    b as usize
-}
-
-pub fn expect_bytes(line: &[u8], c: Cursor, run: &[u8]) -> Cursor {
-    let mut at = trial_tools::reading::expect_size(line, c, run.len());
-    let mut i: usize = 0;
-    while i < run.len() {
-        at = trial_tools::reading::expect_size(line, at, size_of(run[i]));
-        i += 1;
+    pub fn read(&mut self, line: &mut Line<'_>) -> Option<ReachRuns<'_>> {
+        let ReachArrays { left, right, marks } = self;
+        Some(ReachRuns {
+            left: line.run(left)?,
+            right: line.run(right)?,
+            marks: line.run(marks)?,
+        })
     }
-    at
-}
-
-fn size_of_mark(m: Mark) -> usize {
-    m as usize
-}
-
-pub fn expect_marks(line: &[u8], c: Cursor, run: &[Mark]) -> Cursor {
-    let mut at = trial_tools::reading::expect_size(line, c, run.len());
-    let mut i: usize = 0;
-    while i < run.len() {
-        at = trial_tools::reading::expect_size(line, at, size_of_mark(run[i]));
-        i += 1;
-    }
-    at
 }

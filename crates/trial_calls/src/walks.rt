@@ -1,181 +1,58 @@
 // Calls of placing and stepping.
-use job::Vehicle;
+use crate::runs::{PathArrays, ReachArrays, ReachRuns};
+use path::PathRoom;
 use stations::PlaceAnswer;
-use trial_tools::reading::Cursor;
-use walk::{StepAnswer, Walk};
+use trial_tools::reading::{Line, same};
+use walk::StepAnswer;
 
-// What a call answered: 0 or the refusal's number, the unit that it names or 0, and the record.
-#[derive(Clone, Copy)]
-pub struct Told {
-    pub number: u8,
-    pub unit: usize,
-    pub walk: Walk,
-}
-
-fn told_placing(p: stations::Placing) -> Told {
-    let answer = p.answer;
-    let walk = p.walk;
+// The refusal's number, 0 for none.
+fn number_of_placing(answer: PlaceAnswer) -> u8 {
     match answer {
-        PlaceAnswer::Placed => Told {
-            number: 0,
-            unit: 0,
-            walk,
-        },
-        PlaceAnswer::Refused(number) => Told {
-            number,
-            unit: 0,
-            walk,
-        },
+        PlaceAnswer::Placed => 0,
+        PlaceAnswer::Refused(number) => number,
     }
 }
 
-fn told_step(s: walk::Advanced) -> Told {
-    let answer = s.answer;
-    let walk = s.walk;
+// The refusal's number and the unit that it names, 0 for none.
+fn numbers_of_step(answer: StepAnswer) -> (u8, usize) {
     match answer {
-        StepAnswer::Made => Told {
-            number: 0,
-            unit: 0,
-            walk,
-        },
-        StepAnswer::Refused(number) => Told {
-            number,
-            unit: 0,
-            walk,
-        },
-        StepAnswer::RefusedUnit(number, unit) => Told { number, unit, walk },
+        StepAnswer::Made => (0, 0),
+        StepAnswer::Refused(number) => (number, 0),
+        StepAnswer::RefusedUnit(number, unit) => (number, unit),
     }
 }
 
-// A placement names no unit, and its line has no place for one.
-fn expect_told(line: &[u8], c: Cursor, placing: bool, t: Told) -> Cursor {
-    let number = trial_tools::reading::expect_size(line, c, t.number as usize);
-    if placing {
-        return crate::answers::expect_walk(line, number, t.walk);
-    }
-    let unit = trial_tools::reading::expect_size(line, number, t.unit);
-    crate::answers::expect_walk(line, unit, t.walk)
+pub fn place(line: &mut Line<'_>) -> Option<()> {
+    let mut path_arrays = PathArrays::empty();
+    let mut reach_arrays = ReachArrays::empty();
+    let vehicle = line.vehicle()?;
+    let before = line.walk()?;
+    let asked = line.number()?;
+    let PathRoom { xs, ys, gxs, gys } = path_arrays.read(line)?;
+    let ReachRuns { left, right, marks } = reach_arrays.read(line)?;
+    line.equals_sign()?;
+    let placing = stations::place(vehicle, before, asked, xs, ys, gxs, gys, left, right, marks);
+    same(line.number()?, number_of_placing(placing.answer))?;
+    same(line.walk()?, placing.walk)?;
+    line.expect_run(left)?;
+    line.expect_run(right)?;
+    line.expect_run(marks)
 }
 
-fn call(
-    placing: bool,
-    v: Vehicle,
-    w: Walk,
-    asked: usize,
-    xs: &[i32],
-    ys: &[i32],
-    gxs: &[i32],
-    gys: &[i32],
-    left: &mut [i32],
-    right: &mut [i32],
-    marks: &mut [marks::Mark],
-) -> Told {
-    if placing {
-        return told_placing(stations::place(v, w, asked, xs, ys, gxs, gys, left, right, marks));
-    }
-    told_step(stations::step(w, asked, xs, ys, gxs, gys, left, right, marks))
-}
-
-// A call on seven lent runs, and all that it answers.
-fn made(
-    line: &[u8],
-    c: Cursor,
-    placing: bool,
-    v: Vehicle,
-    w: Walk,
-    asked: usize,
-    xs: &[i32],
-    ys: &[i32],
-    gxs: &[i32],
-    gys: &[i32],
-    left: &mut [i32],
-    right: &mut [i32],
-    marks: &mut [marks::Mark],
-) -> Cursor {
-    let told = call(placing, v, w, asked, xs, ys, gxs, gys, left, right, marks);
-    let answer = expect_told(line, c, placing, told);
-    let lefts = crate::runs::expect_run(line, answer, left);
-    let rights = crate::runs::expect_run(line, lefts, right);
-    crate::runs::expect_marks(line, rights, marks)
-}
-
-// The three runs that are written, and the call.
-fn with_reaches(
-    line: &[u8],
-    c: Cursor,
-    placing: bool,
-    v: Vehicle,
-    w: Walk,
-    asked: usize,
-    xs: &[i32],
-    ys: &[i32],
-    gxs: &[i32],
-    gys: &[i32],
-) -> Cursor {
-    let mut left = crate::runs::empty_run();
-    let mut right = crate::runs::empty_run();
-    let mut marks = crate::runs::empty_marks();
-    let l = crate::runs::read_run(line, c, &mut left);
-    let r = crate::runs::read_run(line, l.next, &mut right);
-    let m = crate::runs::read_marks(line, r.next, &mut marks);
-    let i = l.count;
-    let j = r.count;
-    let k = m.count;
-    made(
-        line,
-        trial_tools::reading::equals_sign(line, m.next),
-        placing,
-        v,
-        w,
-        asked,
-        xs,
-        ys,
-        gxs,
-        gys,
-        &mut left[..i],
-        &mut right[..j],
-        &mut marks[..k],
-    )
-}
-
-// The stations asked for and the four runs of the path.
-fn with_path(line: &[u8], c: Cursor, placing: bool, v: Vehicle, w: Walk) -> Cursor {
-    let mut xs = crate::runs::empty_run();
-    let mut ys = crate::runs::empty_run();
-    let mut gxs = crate::runs::empty_run();
-    let mut gys = crate::runs::empty_run();
-    let asked = trial_tools::reading::read_size(line, c);
-    let x = crate::runs::read_run(line, asked.next, &mut xs);
-    let y = crate::runs::read_run(line, x.next, &mut ys);
-    let gx = crate::runs::read_run(line, y.next, &mut gxs);
-    let gy = crate::runs::read_run(line, gx.next, &mut gys);
-    let i = x.count;
-    let j = y.count;
-    let k = gx.count;
-    let n = gy.count;
-    with_reaches(
-        line,
-        gy.next,
-        placing,
-        v,
-        w,
-        asked.value,
-        &xs[..i],
-        &ys[..j],
-        &gxs[..k],
-        &gys[..n],
-    )
-}
-
-pub fn place(line: &[u8], c: Cursor) -> Cursor {
-    let v = trial_tools::arguments::read_vehicle(line, c);
-    let w = trial_tools::arguments::read_walk(line, v.next);
-    with_path(line, w.next, true, v.vehicle, w.walk)
-}
-
-pub fn step(line: &[u8], c: Cursor) -> Cursor {
-    let w = trial_tools::arguments::read_walk(line, c);
-    let walk = w.walk;
-    let vehicle = walk.vehicle;
-    with_path(line, w.next, false, vehicle, walk)
+pub fn step(line: &mut Line<'_>) -> Option<()> {
+    let mut path_arrays = PathArrays::empty();
+    let mut reach_arrays = ReachArrays::empty();
+    let before = line.walk()?;
+    let asked = line.number()?;
+    let PathRoom { xs, ys, gxs, gys } = path_arrays.read(line)?;
+    let ReachRuns { left, right, marks } = reach_arrays.read(line)?;
+    line.equals_sign()?;
+    let advanced = stations::step(before, asked, xs, ys, gxs, gys, left, right, marks);
+    let (number, unit) = numbers_of_step(advanced.answer);
+    same(line.number()?, number)?;
+    same(line.number()?, unit)?;
+    same(line.walk()?, advanced.walk)?;
+    line.expect_run(left)?;
+    line.expect_run(right)?;
+    line.expect_run(marks)
 }

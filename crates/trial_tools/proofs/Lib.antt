@@ -1,2 +1,1 @@
-mod ReadingLaws
 pub mod PlaceLaws

@@ -2,9 +2,8 @@
 #![tactic(auto)]
 
 pub mod arguments;
-pub mod lines;
+pub mod counts;
 pub mod places;
-pub mod printing;
 pub mod reading;
 pub mod rigs;
 pub mod tables;

@@ -1,28 +1,19 @@
 // Tables, read whole into the room that is lent for them.
 ghost use Rattle.std.specs.Io.{ReadsAtMost};
-ghost use Rattle.std.specs.Prelude.{◌≤◌, length};
+ghost use Rattle.std.specs.Prelude.{◌<◌, ◌≤◌, length, IfSome};
 
 use std::io::Read;
 use std::rt::Files;
 use std::{fs, io};
-
-// One read; one that fails ends the table, as its end does.
-fn read_some<R: Read>(reader: &mut R, text: &mut [u8]) -> usize
-    ensures { result ≤ length text.new }
-{
-    match reader.read(text) {
-        Ok(n) => n,
-        Err(_) => 0,
-    }
-}
 
 // Reads until the room is full, the input ends or a read fails, and returns how many bytes stand at the start of the room.
 pub fn read_full<R: Read>(reader: &mut R, text: &mut [u8]) -> usize
     ensures { result ≤ length text.new }
 {
     let mut done: usize = 0;
+    // Kept: only a read tells how far it comes, so no iterator steps here.
     while done < text.len() {
-        let n = read_some(reader, &mut text[done..]);
+        let n = reader.read(&mut text[done..]).unwrap_or(0);
         if n == 0 {
             return done;
         }
@@ -37,4 +28,31 @@ pub fn read_table<R: Files>(rt: &R, name: &str, text: &mut [u8]) -> io::Result<u
 {
     let mut file = fs::open(rt, name)?;
     Ok(read_full(&mut file, text))
+}
+
+// Room for a table of so many bytes.
+pub fn room<const SIZE: usize>() -> [u8; SIZE] {
+    [0; SIZE]
+}
+
+// The table, where it could be opened and leaves some of the room; else what is wrong is told. What cannot be written is lost: a trial has
+// nowhere else to tell it.
+pub fn whole_table<'t, R: Files + Print + Eprint>(
+    rt: &R,
+    name: &str,
+    room: &'t mut [u8],
+) -> Option<&'t [u8]>
+    ensures { IfSome result (λ text. length text.now < length room.old) }
+{
+    match read_table(rt, name, room) {
+        Ok(length) if length < room.len() => Some(&room[..length]),
+        Ok(_) => {
+            let _written = println!(rt; "the table does not fit");
+            None
+        }
+        Err(error) => {
+            let _written = eprintln!(rt; "{name}: {error}");
+            None
+        }
+    }
 }

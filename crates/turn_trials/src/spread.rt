@@ -1,32 +1,26 @@
-// How far drawn places lie from printed ones: squared distances in ticks, six to a row, one for each of the points 0 to 5.
+// How far the drawn places of a point lie from the printed ones: squared distances in ticks, one for each row that could be compared.
 
-// The rows of the table, and the squares that they give.
+// The rows of the table.
 pub const ROWS: usize = 148;
 
-pub const SQUARES: usize = 888;
+pub type Squares = [Option<i64>; ROWS];
 
-// The rows whose square for a point is at most so much.
-pub fn rows_within(squares: &[i64; SQUARES], point: usize, most: i64) -> usize {
-    let mut rows: usize = 0;
-    let mut i = point;
-    while i < SQUARES {
-        if squares[i] <= most {
-            rows += 1;
-        }
-        i += 6;
-    }
-    rows
+pub fn rows_compared(squares: &Squares) -> usize {
+    squares.iter().flatten().count()
+}
+
+// The rows whose square is at most so much.
+fn rows_within(squares: &Squares, most: i64) -> usize {
+    squares.iter().flatten().filter(|s| **s <= most).count()
 }
 
 // The least whole distance that so many rows do not go beyond, and 10,000 where that is more:
 // of more than half of the rows the median, of all of them the largest.
-pub fn distance_of(squares: &[i64; SQUARES], point: usize, rows: usize) -> u32 {
-    let mut d: u32 = 0;
-    while d < 10000 {
-        if rows <= rows_within(squares, point, exact::wide(d * d)) {
+pub fn distance_of(squares: &Squares, rows: usize) -> u32 {
+    for d in 0..10000u32 {
+        if rows <= rows_within(squares, i64::from(d * d)) {
             return d;
         }
-        d += 1;
     }
-    d
+    10000
 }

@@ -2,132 +2,82 @@
 #![tactic(auto)]
 
 use job::{Form, Job, Vehicle};
-use path::Laid;
+use path::{Path, PathRoom};
 use reaches::{Place, WidestAnswer};
-use trial_tools::{printing, rigs};
+use trial_tools::rigs;
 use walk::{StepAnswer, Walk};
 
-// The steps that a walk made, and the record that it ends with.
-#[derive(Clone, Copy)]
-pub struct Walked {
-    pub made: usize,
-    pub walk: Walk,
+// The steps that a rig makes, and where it is widest.
+#[derive(Clone, Copy, PartialEq, Eq)]
+struct Walked {
+    steps: usize,
+    widest: Place,
 }
 
-fn is_made(a: StepAnswer) -> bool {
-    match a {
-        StepAnswer::Made => true,
-        StepAnswer::Refused(_) => false,
-        StepAnswer::RefusedUnit(_, _) => false,
-    }
-}
-
-// A rig is placed and stepped until a step is refused.
+// A rig is placed and stepped until a step is refused; the steps made, and the record that the walk ends with.
 fn walk_along(
     v: Vehicle,
     asked: usize,
-    xs: &[i32],
-    ys: &[i32],
-    gxs: &[i32],
-    gys: &[i32],
+    path: Path<'_>,
     left: &mut [i32],
     right: &mut [i32],
     marks: &mut [marks::Mark],
-) -> Walked {
-    let placing = stations::place(
-        v,
-        rigs::no_walk(v),
-        asked,
-        xs,
-        ys,
-        gxs,
-        gys,
-        left,
-        right,
-        marks,
-    );
+) -> (usize, Walk) {
+    let before = rigs::no_walk(v);
+    let Path { xs, ys, gxs, gys } = path;
+    let placing = stations::place(v, before, asked, xs, ys, gxs, gys, left, right, marks);
     let mut w = placing.walk;
-    let mut made: usize = 0;
-    while made < asked {
+    for made in 0..asked {
         let advanced = stations::step(w, asked, xs, ys, gxs, gys, left, right, marks);
-        let answer = advanced.answer;
-        if is_made(answer) {
-            w = advanced.walk;
-            made += 1;
-        } else {
-            return Walked { made, walk: w };
+        if !matches!(advanced.answer, StepAnswer::Made) {
+            return (made, w);
         }
+        w = advanced.walk;
     }
-    Walked { made, walk: w }
+    (asked, w)
 }
 
-// Whether the widest place is the one looked for.
-fn is_at(p: Place, wanted: Place) -> bool {
-    (p.station == wanted.station)
-        & ((p.width == wanted.width) & ((p.left == wanted.left) & (p.right == wanted.right)))
+// The job's path is laid and its rig walked along it.
+fn walk_of(j: Job) -> Option<Walked> {
+    let mut xs = [0i32; 2001];
+    let mut ys = [0i32; 2001];
+    let mut gxs = [0i32; 2001];
+    let mut gys = [0i32; 2001];
+    let mut left = [0i32; 2001];
+    let mut right = [0i32; 2001];
+    let mut marks = [0u32; 2001];
+    let mut room = PathRoom {
+        xs: &mut xs,
+        ys: &mut ys,
+        gxs: &mut gxs,
+        gys: &mut gys,
+    };
+    let asked = path::lay(j, &mut room).ok()?;
+    let (steps, w) = walk_along(
+        j.vehicle,
+        asked,
+        room.laid(),
+        &mut left,
+        &mut right,
+        &mut marks,
+    );
+    let WidestAnswer::At(widest) = reaches::widest(w, asked, &left, &right, &marks) else {
+        return None;
+    };
+    Some(Walked { steps, widest })
 }
 
-fn widest_is(answer: WidestAnswer, wanted: Place) -> bool {
-    match answer {
-        WidestAnswer::At(p) => is_at(p, wanted),
-        WidestAnswer::Refused(_) => false,
-    }
-}
-
-// Whether a rig walks so many steps along a path and is widest at the place looked for.
-fn walk_is(
-    v: Vehicle,
-    asked: usize,
-    steps: usize,
-    wanted: Place,
-    xs: &[i32],
-    ys: &[i32],
-    gxs: &[i32],
-    gys: &[i32],
-    left: &mut [i32],
-    right: &mut [i32],
-    marks: &mut [marks::Mark],
-) -> bool {
-    let w = walk_along(v, asked, xs, ys, gxs, gys, left, right, marks);
-    let answer = reaches::widest(w.walk, asked, left, right, marks);
-    (w.made == steps) & widest_is(answer, wanted)
-}
-
-// The job's path is laid and its rig walked along it; whether the steps and the widest place are those looked for.
-fn walks_so(
-    j: Job,
-    steps: usize,
-    wanted: Place,
-    xs: &mut [i32],
-    ys: &mut [i32],
-    gxs: &mut [i32],
-    gys: &mut [i32],
-    left: &mut [i32],
-    right: &mut [i32],
-    marks: &mut [marks::Mark],
-) -> bool {
-    let laid = path::lay(j, xs, ys, gxs, gys);
-    match laid {
-        Laid::Stations(n) => {
-            let v = j.vehicle;
-            walk_is(v, n, steps, wanted, xs, ys, gxs, gys, left, right, marks)
-        }
-        Laid::Refused(_) => false,
-    }
-}
-
-// One line: the steps, the widest station, and whether both are as they should be.
-fn report(rt: &impl Print, name: &[u8], steps: usize, station: usize, passed: bool) {
-    printing::write_all(rt, name);
-    printing::write_all(rt, b": ");
-    printing::print_decimal(rt, steps as u64);
-    printing::write_all(rt, b" steps, widest at station ");
-    printing::print_decimal(rt, station as u64);
-    if passed {
-        printing::write_all(rt, b": passed\n");
-        return;
-    }
-    printing::write_all(rt, b": FAILED\n");
+// One line: the steps, the widest station, and whether the walk is as it should be. What cannot be written is lost: a trial has nowhere else
+// to tell it.
+fn report(rt: &impl Print, name: &str, j: Job, wanted: Walked) {
+    let steps = wanted.steps;
+    let station = wanted.widest.station;
+    let verdict = if walk_of(j) == Some(wanted) {
+        "passed"
+    } else {
+        "FAILED"
+    };
+    let _written = println!(rt; "{name}: {steps} steps, widest at station {station}: {verdict}");
 }
 
 // The worked straight: one unit of 5 m, its body 2.4 m wide and 1 m ahead of the front axle, 6.5 m due north in steps of 0.5 m.
@@ -185,68 +135,39 @@ fn longest_job() -> Job {
 }
 
 fn main(rt: HostRuntime) {
-    let mut xs = [0i32; 2001];
-    let mut ys = [0i32; 2001];
-    let mut gxs = [0i32; 2001];
-    let mut gys = [0i32; 2001];
-    let mut left = [0i32; 2001];
-    let mut right = [0i32; 2001];
-    let mut marks = [0u32; 2001];
-    let straight = Place {
-        station: 3,
-        width: 24000,
-        left: -12000,
-        right: 12000,
+    let straight = Walked {
+        steps: 13,
+        widest: Place {
+            station: 3,
+            width: 24000,
+            left: -12000,
+            right: 12000,
+        },
     };
-    let a = walks_so(
-        straight_job(),
-        13,
-        straight,
-        &mut xs,
-        &mut ys,
-        &mut gxs,
-        &mut gys,
-        &mut left,
-        &mut right,
-        &mut marks,
-    );
-    report(&rt, b"one unit on a straight", 13, 3, a);
-    let quarter = Place {
-        station: 34,
-        width: 59020,
-        left: -17648,
-        right: 41372,
+    report(&rt, "one unit on a straight", straight_job(), straight);
+    let quarter = Walked {
+        steps: 84,
+        widest: Place {
+            station: 34,
+            width: 59020,
+            left: -17648,
+            right: 41372,
+        },
     };
-    let b = walks_so(
+    report(
+        &rt,
+        "tractor and trailer round a quarter turn",
         quarter_job(),
-        84,
         quarter,
-        &mut xs,
-        &mut ys,
-        &mut gxs,
-        &mut gys,
-        &mut left,
-        &mut right,
-        &mut marks,
     );
-    report(&rt, b"tractor and trailer round a quarter turn", 84, 34, b);
-    let longest = Place {
-        station: 1246,
-        width: 54125,
-        left: -35841,
-        right: 18284,
+    let longest = Walked {
+        steps: 2000,
+        widest: Place {
+            station: 1246,
+            width: 54125,
+            left: -35841,
+            right: 18284,
+        },
     };
-    let c = walks_so(
-        longest_job(),
-        2000,
-        longest,
-        &mut xs,
-        &mut ys,
-        &mut gxs,
-        &mut gys,
-        &mut left,
-        &mut right,
-        &mut marks,
-    );
-    report(&rt, b"four units round and round", 2000, 1246, c);
+    report(&rt, "four units round and round", longest_job(), longest);
 }

@@ -15,40 +15,34 @@ use Rattle.stations.proofs.RigLaws.{sound_keeping}
 use Rattle.stations.proofs.Entering.{rig_at}
 use borrow.Author.Rules.{rules}
 use Rattle.trial_tools.proofs.places.points_at.Goals as goal
-use Rattle.trial_tools.proofs.places.points_at.Goals.{Start, Then-path_lent, Then-record_sound}
-
-abbrev path : Start → PathRuns
-path s = path_runs s.args.xs.now s.args.ys.now s.args.gxs.now s.args.gys.now
-
-places : (s : Start) → length s.args.w.vehicle.units ≡ 4
-places s = search (rules, unmapped)
-
-is_lent : (c : Then-path_lent) → let s = c.before.before in LentPath s.args.asked (path s)
-is_lent c = let s = c.before.before in lent_path s.args.asked (path s) (sym c.path_lent.ensures ∙ c.if-path_lent.true)
+use Rattle.trial_tools.proofs.places.points_at.Goals.{Else-not-record_sound}
 
 -- all tests passed
-module _ (c : Then-record_sound) where
-  abbrev s : Start
-  s = c.before.before.before.before.before.before
+module _ (c : Else-not-record_sound) where
+  abbrev path : PathRuns
+  path = path_runs c.args.xs.now c.args.ys.now c.args.gxs.now c.args.gys.now
 
-  path_passed : path_sound s.args.asked (path s) ≡ true
-  path_passed = let t = c.before.before in sym t.path_sound.ensures ∙ t.if-path_sound.true
+  is_lent : LentPath c.args.asked path
+  is_lent = lent_path c.args.asked path (sym c.path_lent.ensures ∙ c.if-not-path_lent.false)
 
-  record_passed : record_sound s.args.asked (view s.args.w) ≡ true
-  record_passed = sym c.record_sound.ensures ∙ c.if-record_sound.true
+  path_passed : path_sound c.args.asked path ≡ true
+  path_passed = sym c.path_sound.ensures ∙ c.if-not-path_sound.false
 
-  reached : s.args.w.station < s.args.asked
-  reached = (sound_record s.args.asked (view s.args.w) record_passed).station
+  record_passed : record_sound c.args.asked (view c.args.w) ≡ true
+  record_passed = sym c.record_sound.ensures ∙ c.if-not-record_sound.false
 
-pub path_sound-requires : goal.path_sound-requires
-path_sound-requires c = record { room = (is_lent c).room }
+  reached : c.args.w.station < c.args.asked
+  reached = (sound_record c.args.asked (view c.args.w) record_passed).station
+
+  places : length c.args.w.vehicle.units ≡ 4
+  places = search (rules, unmapped)
 
 pub station_at-here-requires : goal.station_at-here-requires
-station_at-here-requires c = station_lent (path (s c)) (s c).args.asked (s c).args.w.station (is_lent c.before.before.before.before).room (reached c)
+station_at-here-requires c = station_lent (path c) c.args.asked c.args.w.station (is_lent c).room (reached c)
 
 pub points-requires : goal.points-requires
 points-requires c =
     let t = c.before.before.before.before in
-    let w = (s t).args.w in
+    let w = t.args.w in
     subst (λ (z : Station). RigAt w.vehicle w.d z.position) (sym c.station_at-here.ensures)
-    (rig_at w (path (s t)) (s t).args.asked w.station (places (s t)) (sound_keeping (s t).args.asked (view w) (record_passed t)) (path_passed t) (reached t))
+    (rig_at w (path t) t.args.asked w.station (places t) (sound_keeping t.args.asked (view w) (record_passed t)) (path_passed t) (reached t))

@@ -1,7 +1,0 @@
--- `trial_calls::runs::read_bytes` meets its contract.
-use Rattle.trial_calls.proofs.RunLaws.{counted}
-use native.Mathlib.Omega.{arith}
-use Rattle.trial_calls.proofs.runs.read_bytes.Goals as goal
-
-pub returns : goal.returns
-returns c = counted _ _ (omega arith)
