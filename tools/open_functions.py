@@ -12,7 +12,8 @@ from pathlib import Path
 ROOT = Path(__file__).resolve().parent.parent
 MODULE = re.compile(r"^(pub )?mod (\w+);")
 FUNCTION = re.compile(r'^(\s*)pub (extern "C" )?fn (\w+)')
-IMPL = re.compile(r"^impl (\w+)")
+IMPL = re.compile(r"^impl(?:<[^>]*>)? (\w+)")
+HANDED_ON = re.compile(r"^pub use (\w+)::\{?([\w, ]+?)\}?;")
 NAMED = re.compile(r"`([a-z_]\w*(?:::\w+)+|turning_\w+)(?:\(|`)")
 
 
@@ -38,8 +39,12 @@ def functions(file, path):
         if match := FUNCTION.match(line):
             name = f"{owner}::{match[3]}" if owner else match[3]
             yield (match[3] if match[2] else f"{path}::{name}"), requires(lines, at)
+        folder = file.parent if file.name == "lib.rt" else file.parent / file.stem
+        if (match := HANDED_ON.match(line)) and (folder / f"{match[1]}.rt").exists():
+            # a private module's functions, handed on under this one's name
+            wanted = {f"{path}::{name.strip()}" for name in match[2].split(",")}
+            yield from (found for found in functions(folder / f"{match[1]}.rt", path) if found[0] in wanted)
         if (match := MODULE.match(line)) and match[1]:
-            folder = file.parent if file.name == "lib.rt" else file.parent / file.stem
             yield from functions(folder / f"{match[2]}.rt", f"{path}::{match[2]}")
 
 
