@@ -37,7 +37,8 @@ pub fn read_standard_input<R: Read>(stdin: &mut R, buffer: &mut [u8]) -> Result<
 }
 
 // Whether there is an argument at a place. Only an empty one fits where there is no room, and any other is too long.
-pub fn has_argument(rt: &impl Env, place: usize) -> bool {
+// It takes the runtime itself: under a bound the whole of what the runtime knows of its environment would be assumed.
+pub fn has_argument(rt: HostRuntime, place: usize) -> bool {
     !matches!(rt.arg(place, &mut []), Err(FillError::NotPresent))
 }
 

@@ -7,8 +7,7 @@ ghost use Rattle.answer_text.specs.Answers.{TextIs};
 ghost use Rattle.kerb_told.specs.Printed.{printed_kerb};
 
 use answer_text::Text;
-use std::fs;
-use std::fs::Files;
+use std::fs::File;
 use std::io::{Read, Write};
 use std::rt::Env;
 
@@ -19,17 +18,17 @@ fn answer(job: &[u8], geometry: &[u8]) -> Text
 }
 
 // The file that the argument names, whose name is at most 131,071 bytes on Linux. A path is text here, so a name that is no UTF-8 opens nothing.
-fn open_file<S: Env + Files>(rt: &S) -> Option<S::File> {
+fn open_file(rt: HostRuntime) -> Option<File> {
     let mut name = [0u8; 131072];
     let count = rt.arg(1, &mut name).ok()?;
     let name = str::from_utf8(&name[..count]).ok()?;
-    fs::open(rt, name).ok()
+    File::open(&rt, name).ok()
 }
 
 // The file is opened only once the job is read: with standard input closed it would take its place.
 // The geometry has room for one byte more than the longest has, so that bytes left over are seen.
 fn run<R: Read, W: Write>(
-    rt: &(impl Env + Files),
+    rt: HostRuntime,
     stdin: &mut R,
     stdout: &mut W,
 ) -> Result<(), &'static str> {
@@ -48,5 +47,5 @@ fn run<R: Read, W: Write>(
 }
 
 fn main(rt: HostRuntime) {
-    job_input::tell_failure(&rt, "kerb", run(&rt, &mut rt.stdin(), &mut rt.stdout()));
+    job_input::tell_failure(&rt, "kerb", run(rt, &mut rt.stdin(), &mut rt.stdout()));
 }

@@ -21,7 +21,7 @@ fn answer(input: &[u8], lowest: u32, pitch: u32, number: u32) -> Text
 }
 
 // An argument as a number. Linux passes none of 131,072 bytes or more, so every one fits; one that is missing is no number, and an empty one neither.
-fn argument(rt: &impl Env, place: usize) -> Option<u32> {
+fn argument(rt: HostRuntime, place: usize) -> Option<u32> {
     let mut word = [0u8; 131072];
     let count = rt.arg(place, &mut word).ok()?;
     text::read_decimal(&word[..count])
@@ -29,7 +29,7 @@ fn argument(rt: &impl Env, place: usize) -> Option<u32> {
 
 // The job is read only once the arguments are good.
 fn run<R: Read, W: Write>(
-    rt: &impl Env,
+    rt: HostRuntime,
     stdin: &mut R,
     stdout: &mut W,
 ) -> Result<(), &'static str> {
@@ -46,5 +46,5 @@ fn run<R: Read, W: Write>(
 }
 
 fn main(rt: HostRuntime) {
-    job_input::tell_failure(&rt, "settings", run(&rt, &mut rt.stdin(), &mut rt.stdout()));
+    job_input::tell_failure(&rt, "settings", run(rt, &mut rt.stdin(), &mut rt.stdout()));
 }
