@@ -1,7 +1,7 @@
 // Whole-number division as the papers round it.
 #![tactic(auto)]
 
-ghost use Rattle.std.specs.Prelude.{◌≡◌, pos};
+ghost use Rattle.std.specs.Prelude.{◌≡◌};
 ghost use Rattle.exact.specs.Nearest.{nearest_z, Divisor, NearestRule};
 
 // The nearest whole number to n / d, halves away from zero.
@@ -23,17 +23,3 @@ pub fn nearest(n: i64, d: i64) -> i64
 pub fn nearest_rule()
     ensures { NearestRule }
 {}
-
-// An unsigned number, wide and signed.
-pub fn wide(x: u32) -> i64
-    ensures { result ≡ pos x }
-{
-    x as i64
-}
-
-// A signed number, wide.
-pub fn wide_signed(z: i32) -> i64
-    ensures { result ≡ z }
-{
-    z as i64
-}

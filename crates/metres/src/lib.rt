@@ -66,7 +66,7 @@ pub fn within_limit(x: f64) -> bool
 }
 
 // The whole number nearest to p: its digits over a power of two, divided as every figure is.
-// Kept: not `p.round()`, because `exact::nearest` alone decides where a half goes.
+// Kept: a rule of the project needs it: one rule says where a half goes, that of `exact::nearest` (docs/DECISIONS.md, Kerbs), and `p.round()` would be a second.
 fn nearest_whole(p: f64) -> i64
     requires { Sized ticks_most p }
     ensures { result ≡ nearest_whole p }
@@ -77,6 +77,7 @@ fn nearest_whole(p: f64) -> i64
     if exponent < 1013 {
         return 0;
     }
+    // Kept: the new form is no plainer: i64 has no From of a u64, and try_from would answer an error that cannot come.
     let digits = (LEADING + bits % LEADING) as i64;
     let unit = (1u64 << (1075 - exponent)) as i64;
     if bits < SIGN {

@@ -1,13 +1,13 @@
 // Whole numbers in seven-bit groups, lowest group first: read at a cursor, written into a lent run.
 #![tactic(auto)]
 
-ghost use Rattle.std.specs.Prelude.{◌≡◌, ◌+◌, ℕ, length, nat_abs};
+ghost use Rattle.std.specs.Prelude.{◌≡◌, ◌+◌, ℕ, length};
 ghost use Rattle.std.proofs.lemmas.List.Edits.{sets};
 ghost use Rattle.refusal.specs.Numbers.{number_of};
 ghost use Rattle.number.specs.Number.{groups, read_number, write_number};
 ghost use Rattle.number.specs.Signed.{field_of, signed_of};
 ghost use Rattle.number.specs.Field.{within, size_at_most, signed_number, field, signed_field};
-ghost use Rattle.number.specs.Answers.{fault_number, as_read, as_part};
+ghost use Rattle.number.specs.Answers.{field_fault_number, as_read, as_part};
 ghost use Rattle.number.specs.Inner.{GroupsLeft, Room};
 
 use refusal::{Fault, Refusal};
@@ -45,7 +45,7 @@ impl FieldFault {
 impl Misread {
     // The same as people are told it: what is not allowed has a fault of its own, by the field that it stands in.
     fn named(self, own: Fault) -> Refusal
-        ensures { (result.place ≡ self.place) × (number_of result.fault ≡ fault_number (number_of own) self.fault) }
+        ensures { (result.place ≡ self.place) × (number_of result.fault ≡ field_fault_number (number_of own) self.fault) }
     {
         match self.fault {
             FieldFault::Ended => Fault::Ended.at(self.place),
@@ -129,17 +129,10 @@ pub fn field_of(z: i32) -> u32
     ensures { result ≡ field_of z }
 {
     if z < 0 {
-        (-1 - z) as u32 * 2 + 1
+        (z.unsigned_abs() - 1) * 2 + 1
     } else {
-        z as u32 * 2
+        z.unsigned_abs() * 2
     }
-}
-
-// The size of a signed number; -2147483648 has one too.
-pub fn size_of(z: i32) -> u32
-    ensures { result ≡ nat_abs z }
-{
-    z.unsigned_abs()
 }
 
 // The signed number at a cursor.
@@ -158,7 +151,7 @@ pub fn read_sized(s: &[u8], c: Cursor, most: u32) -> Result<(i32, Cursor), Misre
     let Ok((z, _)) = a else {
         return a;
     };
-    if size_of(z) <= most {
+    if z.unsigned_abs() <= most {
         return a;
     }
     Err(FieldFault::NotAllowed.at(c.at))
@@ -176,7 +169,7 @@ pub fn write(run: &mut [u8], at: usize, x: u32) -> usize
     requires { Room (write_number x) at (length run.old) }
     ensures { (result ≡ at + length (write_number x)) × (run.new ≡ sets run.old at (write_number x)) }
 {
-    // Kept: how many groups there are is known only once they are written.
+    // Kept: the new form is no plainer: how many groups there are is known only once they are written, so no iterator has the steps.
     let mut i = at;
     let mut y = x;
     while 128 <= y {

@@ -41,6 +41,7 @@ pub enum Fault {
 
 impl Fault {
     // The number that people are told.
+    // Kept: the papers and the C interface tell a refusal by its number, and the enum's own numbers are these.
     pub fn number(self) -> u8
         ensures { result ≡ number_of self }
     {

@@ -19,7 +19,7 @@ pub fn put_bytes(run: &mut [u8], at: usize, bytes: &[u8]) -> usize
 }
 
 // Writes the last `count` digits of a number, zeros in front included. They are found from the last to the first.
-// Kept: by hand, because `write!` may fail, and its contract says nothing of what it wrote then.
+// Kept: tried, and the proof did not close: of `write!` into a lent slice no clause says which bytes it wrote or how much room it left.
 fn put_digits(run: &mut [u8], at: usize, count: usize, n: u64) -> usize
     requires { Room (digits count n) at (length run.old) }
     ensures { (result ≡ at + length (digits count n)) × (run.new ≡ sets run.old at (digits count n)) }
@@ -36,6 +36,7 @@ fn put_digits(run: &mut [u8], at: usize, count: usize, n: u64) -> usize
 fn digit_count(n: u64) -> usize
     ensures { result ≡ length (decimal n) }
 {
+    // Kept: the new form is no plainer: usize has no From of a u32, and try_from would answer an error that cannot come.
     n.max(1).ilog10() as usize + 1
 }
 
