@@ -9,29 +9,29 @@ ghost use Rattle.answer_run.specs.Answers.{at_byte, at_unit};
 ghost use Rattle.answer_run.specs.Inner.{Room, ByteFits, UnitFits};
 
 // Two entries of a run, from `at` on.
-// Kept: to copy an array made of the two into the run is longer.
 pub fn put_pair(run: &mut [i64], at: usize, x: i64, y: i64)
     requires { Room at 2 (length run.old) }
     ensures { run.new ≡ sets run.old at (x ∷ y ∷ []) }
 {
-    run[at] = x;
-    run[at + 1] = y;
+    run[at..at + 2].copy_from_slice(&[x, y]);
 }
 
 // A refusal at a byte, in one number.
-// Kept: the refusal is a number, because it is told as one and a narrower type would ask more of callers; the casts, because u32 has no From of a usize.
+// Kept: the C interface needs it: a refusal is told as a number, and a narrower type would ask more of callers.
 pub fn at_byte(number: u8, byte: usize) -> u32
     requires { ByteFits byte }
     ensures { result ≡ at_byte number byte }
 {
+    // Kept: the new form is no plainer: u32 has no From of a usize, and try_from would answer an error that cannot come.
     u32::from(number) + 256 * (byte as u32)
 }
 
 // A refusal at a unit in a step, in one number.
-// Kept: the number and the casts, for the same reasons.
+// Kept: the number, for the same reason.
 pub fn at_unit(number: u8, unit: usize, step: usize) -> u32
     requires { UnitFits unit step }
     ensures { result ≡ at_unit number unit step }
 {
+    // Kept: the casts, for the reason given in `at_byte`.
     u32::from(number) + 256 * (unit as u32) + 65536 * (step as u32)
 }

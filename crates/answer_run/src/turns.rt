@@ -10,7 +10,7 @@ use heading::Advance;
 use plane::Vec2;
 use refusal::Fault;
 
-// The entries at the start of the run and 0, or the number of the refusal.
+// The entries at the start of the run and 0, or the number of the turn's refusal; 21, before either, where the run has no room for them.
 fn tell<const N: usize>(turn: Result<[i64; N], Fault>, answer: &mut [i64]) -> u32
     ensures { Answered N (told_of (as_answer turn.entry)) answer.old result answer.new }
 {
@@ -38,7 +38,8 @@ fn vector_entries(d: Vec2) -> [i64; 2]
     [d.x, d.y]
 }
 
-// The path turn by itself: 0 with the new heading and the move, or 6, 7 or 8.
+// The path turn by itself: 0 with the new heading and the move, or 21, 6, 7 or 8.
+// Kept: two numbers for the heading, as the C interface needs it: it hands over each coordinate by itself.
 pub fn path_turn(gx: i64, gy: i64, s: u32, r: i32, answer: &mut [i64]) -> u32
     ensures { Answered 4 (path_told (path_turn (record { x = gx; y = gy }) s r)) answer.old result answer.new }
 {
@@ -46,7 +47,7 @@ pub fn path_turn(gx: i64, gy: i64, s: u32, r: i32, answer: &mut [i64]) -> u32
     tell(turn.map(path_entries), answer)
 }
 
-// The turn of a single unit: 0 with its new vector, or 27 or 22.
+// The turn of a single unit: 0 with its new vector, or 21, 27 or 22.
 pub fn unit_turn(dx: i64, dy: i64, fx: i64, fy: i64, wheelbase: u32, answer: &mut [i64]) -> u32
     ensures { Answered 2 (unit_told (unit_turn (record { x = dx; y = dy }) (record { x = fx; y = fy }) wheelbase)) answer.old result answer.new }
 {

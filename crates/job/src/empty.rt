@@ -1,8 +1,8 @@
-// The values of a job that has none: a refusal stands beside them, and unused entries hold them.
+// What unused entries of a job hold.
 ghost use Rattle.std.specs.Prelude.{◌≡◌};
-ghost use Rattle.job.specs.Empty.{empty_body, empty_units, empty_elements, empty_vehicle, empty_job};
+ghost use Rattle.job.specs.Empty.{empty_body, empty_units, empty_elements};
 
-use crate::{Body, Curve, Element, Form, Job, Start, Unit, Vehicle};
+use crate::{Body, Curve, Element, Unit};
 
 pub fn empty_body() -> Body
     ensures { result ≡ empty_body }
@@ -34,37 +34,4 @@ pub fn empty_elements() -> [Element; 64]
         length: 0,
         curve: Curve::Straight,
     }; 64]
-}
-
-pub fn empty_vehicle() -> Vehicle
-    ensures { result ≡ empty_vehicle }
-{
-    let units = empty_units();
-    Vehicle {
-        form: Form::Short,
-        count: 0,
-        units,
-        overhang: 0,
-        front_half_width: 0,
-        rear_half_width: 0,
-    }
-}
-
-pub fn empty_job() -> Job
-    ensures { result ≡ empty_job }
-{
-    let vehicle = empty_vehicle();
-    let elements = empty_elements();
-    Job {
-        vehicle,
-        start: Start {
-            x: 0,
-            y: 0,
-            gx: 0,
-            gy: 0,
-        },
-        step: 0,
-        count: 0,
-        elements,
-    }
 }

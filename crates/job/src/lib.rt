@@ -13,7 +13,7 @@ ghost use Rattle.job.specs.Faults.{vehicle_fault, judge as judge_of};
 ghost use Rattle.job.specs.Inner.{Countable};
 ghost use Rattle.refusal.specs.Numbers.{fault_number};
 
-pub use empty::{empty_body, empty_elements, empty_job, empty_units, empty_vehicle};
+pub use empty::{empty_body, empty_elements, empty_units};
 use number::Range;
 use plane::Vec2;
 use refusal::Fault;
@@ -61,7 +61,7 @@ pub enum Form {
     Long,
 }
 
-// Kept: an array with a count, as there is no heap (a rule of the project), and what is promised of unused units speaks of them.
+// Kept: a rule of the project needs an array with its count: there is no heap, and what is promised of unused units speaks of them.
 #[derive(Clone, Copy, PartialEq, Eq)]
 pub struct Vehicle {
     pub form: Form,
@@ -80,7 +80,7 @@ pub struct Start {
     pub gy: i32,
 }
 
-// Kept: an array with a count, for the same reasons as a vehicle's units.
+// Kept: an array with its count, for the same reasons as a vehicle's units.
 #[derive(Clone, Copy)]
 pub struct Job {
     pub vehicle: Vehicle,
@@ -155,6 +155,8 @@ pub fn overhang_range(form: Form) -> Range
     }
 }
 
+// Kept: the new form is no plainer: a Vec2 is wider, so each caller would make one of two fields to have it tested.
+#[tactic(auto, unfolding(crate::specs::Allowed::heading_allowed))]
 pub fn heading_allowed(gx: i32, gy: i32) -> bool
     ensures { result ≡ heading_allowed gx gy }
 {
@@ -213,7 +215,7 @@ pub fn vehicle_fault(v: Vehicle) -> Result<(), Fault>
 fn is_within_count(range: Range, count: usize) -> bool
     ensures { result ≡ within range count }
 {
-    range.least as usize <= count && count <= range.most as usize
+    u32::try_from(count).is_ok_and(|n| number::is_within(range, n))
 }
 
 // The first fault of a job in the order of its fields.

@@ -2,7 +2,7 @@
 ghost use Rattle.std.specs.Prelude.{◌≡◌, length};
 ghost use Rattle.job.specs.Allowed.{element_allowed};
 ghost use Rattle.job.specs.Faults.{units_fault, elements_fault};
-ghost use Rattle.job.specs.Inner.{UnitsInUse, ElementsInUse};
+ghost use Rattle.job.specs.Inner.{ElementsInUse};
 ghost use Rattle.refusal.specs.Numbers.{fault_number};
 
 use crate::{Element, Form, Unit, measures};

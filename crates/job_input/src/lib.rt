@@ -16,6 +16,7 @@ pub fn read_input<R: Read>(reader: &mut R, buffer: &mut [u8]) -> io::Result<usiz
     ensures bytes { IfOk result (λ n. Consumes (R.remaining reader.old) (R.remaining reader.new) (take n buffer.new)) }
     ensures end { IfOk result (λ n. n < length buffer.new → IsAtEnd (R.remaining reader.new)) }
 {
+    // Kept: the new form is no plainer: how far a read moves is known only once it has read, so no iterator has the steps.
     let mut done = 0;
     while done < buffer.len() {
         let more = reader.read(&mut buffer[done..])?;
@@ -38,6 +39,7 @@ pub fn read_standard_input<R: Read>(stdin: &mut R, buffer: &mut [u8]) -> Result<
 
 // Whether there is an argument at a place. Only an empty one fits where there is no room, and any other is too long.
 // It takes the runtime itself: under a bound the whole of what the runtime knows of its environment would be assumed.
+// It has no clause, because the library promises nothing of arguments.
 pub fn has_argument(rt: HostRuntime, place: usize) -> bool {
     !matches!(rt.arg(place, &mut []), Err(FillError::NotPresent))
 }
@@ -52,6 +54,7 @@ pub fn write_answer<W: Write>(stdout: &mut W, answer: &[u8]) -> Result<(), &'sta
 }
 
 // Tells on standard error what a program failed at, after the program's name. Where standard error cannot be written either, nothing is left to tell it on.
+// It has no clause, because the library promises nothing of standard error.
 pub fn tell_failure(rt: &impl Eprint, program: &str, outcome: Result<(), &str>) {
     if let Err(failure) = outcome {
         let _ = eprintln!(rt; "{program}: {failure}");

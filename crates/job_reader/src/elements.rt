@@ -1,11 +1,11 @@
 // The start of a record, its step and its elements.
 ghost use Rattle.std.specs.Prelude.{◌≡◌};
-ghost use Rattle.number.specs.Field.{signed_field};
 ghost use Rattle.number.specs.Answers.{as_part};
-ghost use Rattle.job.specs.Curves.{curve_of, radius_allowed};
+ghost use Rattle.job.specs.Curves.{curve_of};
 ghost use Rattle.job.specs.Inner.{ElementsInUse};
 ghost use Rattle.job_reader.specs.Record.{read_start, read_element, read_elements, read_path};
 
+use crate::fields;
 use job::{Curve, Element, Job, Side, Start, Vehicle};
 use number::Cursor;
 use refusal::{Fault, Refusal};
@@ -37,24 +37,13 @@ fn curve_of(radius: i32) -> Curve
     }
 }
 
-fn read_radius(s: &[u8], c: Cursor) -> Result<(i32, Cursor), Refusal>
-    ensures { as_part result ≡ signed_field 8 radius_allowed s.now c.at }
-{
-    let a = number::named(number::read_signed(s, c), Fault::Element);
-    let Ok((radius, _)) = a else {
-        return a;
-    };
-    if job::curve_allowed(curve_of(radius)) {
-        return a;
-    }
-    Err(Fault::Element.at(c.at))
-}
-
 fn read_element(s: &[u8], c: Cursor) -> Result<(Element, Cursor), Refusal>
     ensures { as_part result ≡ read_element s.now c.at }
 {
     let (length, c1) = number::named(number::read_within(s, c, job::LENGTH), Fault::Element)?;
-    let (radius, c2) = read_radius(s, c1)?;
+    let (radius, c2) = fields::read_tested(s, c1, Fault::Element, |r| {
+        job::curve_allowed(curve_of(r))
+    })?;
     let curve = curve_of(radius);
     Ok((Element { length, curve }, c2))
 }
@@ -99,6 +88,7 @@ pub(crate) fn read_path(
         number::read_within(s, c1, job::ELEMENT_COUNT),
         Fault::Element,
     )?;
+    // Kept: the new form is no plainer: usize has no From of a u32, and try_from would answer an error that cannot come.
     let count = count as usize;
     let (elements, c3) = read_elements(s, c2, count, step, c1.at)?;
     let job = Job {

@@ -12,6 +12,7 @@ pub(crate) fn read_announced(s: &[u8], c: Cursor) -> Result<((Form, usize), Curs
     ensures { as_part result ≡ read_announced s.now c.at }
 {
     let (n, next) = number::named(number::read(s, c), Fault::UnitCount)?;
+    // Kept: the new form is no plainer: usize has no From of a u32, and try_from would answer an error that cannot come.
     match n {
         1..=4 => Ok(((Form::Short, n as usize), next)),
         11..=14 => Ok(((Form::Long, (n - 10) as usize), next)),

@@ -3,6 +3,7 @@
 
 mod body;
 mod elements;
+mod fields;
 mod first;
 mod units;
 

@@ -1,28 +1,13 @@
 // The vehicle of a record: the number that announces it, its units, then the overhang and the half widths.
 ghost use Rattle.std.specs.Prelude.{◌≡◌};
-ghost use Rattle.number.specs.Field.{signed_field};
 ghost use Rattle.number.specs.Answers.{as_part};
-ghost use Rattle.job.specs.Allowed.{fold_allowed};
 ghost use Rattle.job.specs.Inner.{UnitsInUse};
 ghost use Rattle.job_reader.specs.Record.{read_unit, read_units, read_widths, read_vehicle};
 
-use crate::{body, first};
+use crate::{body, fields, first};
 use job::{Form, Unit, Vehicle};
 use number::Cursor;
 use refusal::{Fault, Refusal};
-
-fn read_fold(s: &[u8], c: Cursor, first: bool) -> Result<(i32, Cursor), Refusal>
-    ensures { as_part result ≡ signed_field 4 (fold_allowed first) s.now c.at }
-{
-    let a = number::named(number::read_signed(s, c), Fault::Unit);
-    let Ok((fold, _)) = a else {
-        return a;
-    };
-    if job::fold_allowed(first, fold) {
-        return a;
-    }
-    Err(Fault::Unit.at(c.at))
-}
 
 fn read_unit(
     s: &[u8],
@@ -36,7 +21,7 @@ fn read_unit(
     let (wheelbase, c1) = number::named(number::read_within(s, c, job::WHEELBASE), Fault::Unit)?;
     let sized = number::read_sized(s, c1, job::hitch_most(last, wheelbase));
     let (hitch, c2) = number::named(sized, Fault::Unit)?;
-    let (fold, c3) = read_fold(s, c2, first)?;
+    let (fold, c3) = fields::read_tested(s, c2, Fault::Unit, |z| job::fold_allowed(first, z))?;
     let (body, c4) = body::read_body_of(s, c3, form)?;
     let unit = Unit {
         wheelbase,
@@ -62,6 +47,7 @@ fn read_units(s: &[u8], c: Cursor, form: Form, count: usize) -> Result<([Unit; 4
 }
 
 // The overhang and the half widths, which stand once after all units.
+// Kept: a rule of the project needs an array with its count: there is no heap; both go into the vehicle as they are.
 fn read_widths(
     s: &[u8],
     c: Cursor,

@@ -8,7 +8,7 @@ use lib.Seq.{sets}
 use lib.Dec.{leb}
 use Rattle.std.specs.Prelude.{Ok}
 use borrow.Author.Tests.{le-leb, leb-true}
-use Rattle.number.specs.Read.{Bytes, Read, got, refused}
+use Rattle.number.specs.Read.{Bytes, got}
 use Rattle.number.proofs.CodecMany.{take_sets}
 use Rattle.job.specs.Faults.{or_fault, judge}
 use Rattle.job.specs.Empty.{empty_units, empty_elements, cleared}

@@ -14,7 +14,7 @@ ghost use Rattle.job_writer.specs.Inner.{Allowed, VehicleFits, ElementFits, Elem
 use job::{Body, Curve, Element, Form, Job, Side, Start, Unit, Vehicle};
 
 // The bytes of a record so far, and their number.
-// Kept: an array with a length beside it, as there is no heap (a rule of the project); no record is over 520 bytes.
+// Kept: a rule of the project needs an array with its count: there is no heap; no record is over 520 bytes.
 #[derive(Clone, Copy)]
 pub(crate) struct Encoded {
     pub bytes: [u8; 520],
@@ -122,6 +122,7 @@ impl Encoded {
         ensures { self.new ≡ appended self.old (write_path j) }
     {
         self.put_number(j.step);
+        // Kept: the new form is no plainer: u32 has no From of a usize, and try_from would answer an error that cannot come.
         self.put_number(j.count as u32);
         self.put_elements(&j.elements[..j.count]);
     }
@@ -144,6 +145,7 @@ fn announcing(form: Form, count: usize) -> u32
     requires { UnitsInUse count }
     ensures { result ≡ announcing form count }
 {
+    // Kept: the cast, for the reason given in `put_path`.
     let n = count as u32;
     match form {
         Form::Short => n,

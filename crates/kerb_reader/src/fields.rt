@@ -29,6 +29,7 @@ pub(crate) fn read_header(
     if !has_bytes(s.len(), c.at, n) {
         return Err(Fault::Geometry.at(c.at));
     }
+    // Kept: the new form is no plainer: u32 has no From of a u64, and try_from would answer an error that cannot come.
     let v = metres::little_endian(s, c.at, n) as u32;
     if number::is_within(range, v) {
         Ok((v, Cursor { at: c.at + n }))

@@ -24,7 +24,7 @@ pub enum Geometry {
 }
 
 // A geometry, with the vertices of a line beside it.
-// Kept: memory is fixed, so there is room for the most vertices that a line has.
+// Kept: a rule of the project (fixed memory) needs it, so there is room for the most vertices that a line has.
 #[derive(Clone, Copy)]
 pub struct Survey {
     pub geometry: Geometry,

@@ -52,6 +52,7 @@ fn read_line(s: &[u8], c: Cursor) -> Result<(Survey, Cursor), Refusal>
     ensures { as_part result ≡ read_line s.now c.at }
 {
     let (n, after) = fields::read_header(s, c, 4, COUNT)?;
+    // Kept: the new form is no plainer: usize has no From of a u32, and try_from would answer an error that cannot come.
     let count = n as usize;
     let (vertices, next) = read_vertices(s, after, count)?;
     let geometry = Geometry::Line(vertices[0], count);
@@ -63,6 +64,7 @@ pub(crate) fn read_survey(s: &[u8]) -> Result<(Survey, Cursor), Refusal>
 {
     let (_, after_mark) = fields::read_header(s, Cursor { at: 0 }, 1, MARK)?;
     let (kind, after_type) = fields::read_header(s, after_mark, 4, TYPE)?;
+    // Kept: the new form is no plainer: the type is used where it is read, and an enum of it would be made by one match to be taken apart by another.
     if kind == 1 {
         read_point(s, after_type)
     } else {

@@ -16,6 +16,7 @@ pub type Mark = u32;
 pub const POINT_CAPACITY: usize = 20;
 
 // How many points the rig of a vehicle has: four for each unit, and the wheels' four.
+#[tactic(auto, unfolding(crate::specs::Count::point_count))]
 pub fn point_count(v: Vehicle) -> usize
     requires { UnitsInUse v.count }
     ensures { result ≡ point_count v }
@@ -36,5 +37,6 @@ pub fn all_set(count: usize, mark: Mark) -> bool
     requires { HavePlaces count }
     ensures { result ≡ all_set count mark }
 {
+    // Kept: the new form is no plainer: usize has no From of a u32, and try_from would answer an error that cannot come.
     count <= mark.trailing_ones() as usize
 }

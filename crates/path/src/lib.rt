@@ -53,10 +53,11 @@ impl<'a> PathRoom<'a> {
         ensures loans { SameLoans self.old self.new }
         ensures stored { room_runs self.new ≡ stored i p (room_runs self.old) }
     {
-        plane::put(self.xs, i, p.position.x);
-        plane::put(self.ys, i, p.position.y);
-        plane::put(self.gxs, i, p.heading.x);
-        plane::put(self.gys, i, p.heading.y);
+        // Kept: the new form is no plainer: i32 has no From of an i64, and try_from would answer an error that cannot come.
+        self.xs[i] = p.position.x as i32;
+        self.ys[i] = p.position.y as i32;
+        self.gxs[i] = p.heading.x as i32;
+        self.gys[i] = p.heading.y as i32;
     }
 
     // The stations of the elements in use are written, from the start on.
@@ -141,6 +142,7 @@ pub fn step_count(elements: &[Element], step: u32) -> usize
     for e in elements {
         total = job::tally_element(total, step, *e);
     }
+    // Kept: the new form is no plainer: usize has no From of a u64, and try_from would answer an error that cannot come.
     total as usize
 }
 

@@ -16,6 +16,7 @@ pub enum Base {
 }
 
 // How far ahead of its base a point lies: as far as the body's corner there, or no way.
+// Kept: the new form is no plainer: an Option would hold no value beside `Corner`, and a row of the table reads by these words.
 #[derive(Clone, Copy)]
 pub enum Along {
     Corner,

@@ -7,7 +7,7 @@ use Rattle.exact.proofs.Witnesses.{divisor_met}
 use Rattle.plane.specs.declared.Vec2.{Vec2}
 use Rattle.unit.specs.Turn.{Wheelbase, Placeable, Turnable, UnitSized, Mirrorable}
 use Rattle.unit.specs.Coupling.{Hitched, Coupled}
-use Rattle.unit.specs.Products.{LongProduct, SizeOfProduct, ShortFactors, LongFactors, ShortVector, Dotted, Imaged}
+use Rattle.unit.specs.Products.{LongProduct, SizeOfProduct, LongFactors, ShortVector, Dotted, Imaged}
 use Rattle.unit.proofs.UnitSizes.{turnable_mirrorable}
 
 abbrev vec : ℤ → ℤ → Vec2
@@ -52,14 +52,11 @@ long_product_met = record { fits = lit≤ tt }
 size_of_product_met : SizeOfProduct 9223372036854775807 (negsuc 0) (pos 9223372036854775807)
 size_of_product_met = record { size = refl; fits = lit≤ tt }
 
-short_factors_met : ShortFactors (pos 600000) (negsuc 599999)
-short_factors_met = record { first = record { size = lit≤ tt }; second = record { size = lit≤ tt } }
-
 long_factors_met : LongFactors (negsuc 599999) (pos 1440000000000)
 long_factors_met = record { first = record { size = lit≤ tt }; second = record { size = lit≤ tt } }
 
 short_vector_met : ShortVector (vec (pos 600000) (negsuc 599999))
-short_vector_met = record { x = short_factors_met.first; y = short_factors_met.second }
+short_vector_met = record { x = record { size = lit≤ tt }; y = record { size = lit≤ tt } }
 
 dotted_met : Dotted (vec (pos 600000) (negsuc 599999)) (vec (pos 600000) (negsuc 599999))
 dotted_met = record { first = short_vector_met; second = short_vector_met }

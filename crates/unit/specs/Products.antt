@@ -21,10 +21,6 @@ short_most = 3 * wheelbase_most
 abbrev pub long_most : ℕ
 long_most = 4 * (short_most * short_most)
 
-pub record ShortFactors (a b : ℤ) : Type 0 where
-  pub first : Within short_most a
-  pub second : Within short_most b
-
 pub record LongFactors (a b : ℤ) : Type 0 where
   pub first : Within short_most a
   pub second : Within long_most b

@@ -3,7 +3,7 @@
 ghost use Rattle.std.specs.Prelude.{◌≡◌, ◌*◌, ◌-ℤ◌, ◌*ℤ◌};
 ghost use Rattle.plane.specs.Vector.{dot as dot_z};
 ghost use Rattle.unit.specs.Turn.{mirrored, Mirrorable};
-ghost use Rattle.unit.specs.Products.{LongProduct, SizeOfProduct, ShortFactors, LongFactors, Dotted, Imaged};
+ghost use Rattle.unit.specs.Products.{LongProduct, SizeOfProduct, LongFactors, Dotted, Imaged};
 
 use plane::Vec2;
 
@@ -18,6 +18,7 @@ fn long_product(a: u32, b: u64) -> u64
     requires { LongProduct a b }
     ensures { result ≡ a * b }
 {
+    // Kept: the new form is no plainer: u32 has no From of a u64, and try_from would answer an error that cannot come.
     let high = (b >> 32) as u32;
     let low = (b % 4294967296) as u32;
     (product(a, high) << 32) + product(a, low)
@@ -28,6 +29,7 @@ fn with_sign(n: u64, a: i64, b: i64) -> i64
     requires { SizeOfProduct n a b }
     ensures { result ≡ a *ℤ b }
 {
+    // Kept: the new form is no plainer: i64 has no From of a u64, and try_from would answer an error that cannot come.
     let positive = n as i64;
     if (a < 0) == (b < 0) {
         return positive;
@@ -35,32 +37,23 @@ fn with_sign(n: u64, a: i64, b: i64) -> i64
     -positive
 }
 
-// a × b, neither longer than 32 bits.
-// Kept: `long_times` would do, with a second multiplication for each of the terminals' four short products.
-fn short_times(a: i64, b: i64) -> i64
-    requires { ShortFactors a b }
-    ensures { result ≡ a *ℤ b }
-{
-    let n = product(a.unsigned_abs() as u32, b.unsigned_abs() as u32);
-    with_sign(n, a, b)
-}
-
 // a × b, where b may be longer than 32 bits.
 fn long_times(a: i64, b: i64) -> i64
     requires { LongFactors a b }
     ensures { result ≡ a *ℤ b }
 {
+    // Kept: the cast, for the reason given in `long_product`.
     let n = long_product(a.unsigned_abs() as u32, b.unsigned_abs());
     with_sign(n, a, b)
 }
 
 // a · b by short products.
-// Kept: `plane::dot` has wide ones, which the counter terminals cannot do in one go.
+// Kept: a rule of the project needs it: the counter terminals cannot do the wide products of `plane::dot` in one go (02, N2).
 fn dot(a: Vec2, b: Vec2) -> i64
     requires { Dotted a b }
     ensures { result ≡ dot_z a b }
 {
-    short_times(a.x, b.x) + short_times(a.y, b.y)
+    long_times(a.x, b.x) + long_times(a.y, b.y)
 }
 
 // A coordinate of 2(m·d)m − |m|²d, from those of m and d.

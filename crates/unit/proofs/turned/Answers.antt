@@ -7,19 +7,17 @@ use Rattle.unit.specs.Turn.{turned_by}
 use Rattle.unit.proofs.Turning.{mirrored_settleable}
 use Rattle.unit.proofs.UnitSizes.{turnable_mirrorable}
 use Rattle.unit.proofs.turned.Goals as goal
-use Rattle.unit.proofs.turned.Goals.{Start}
-
-exact_l : (c : Start) → reread c.args.l ≡ c.args.l
-exact_l c = search rules
 
 pub mirrored_vector-requires : goal.mirrored_vector-requires
 mirrored_vector-requires c = turnable_mirrorable c.args.d c.args.f c.args.l c.requires
 
 pub settle-requires : goal.settle-requires
 settle-requires c =
-    let s = c.before in
-    subst₂ Settleable (sym c.mirrored_vector.ensures) (sym (exact_l s)) (mirrored_settleable s.args.d s.args.f s.args.l s.requires)
+    let e : reread c.args.l ≡ c.args.l = search rules in
+    subst₂ Settleable (sym c.mirrored_vector.ensures) (sym e) (mirrored_settleable c.args.d c.args.f c.args.l c.requires)
 
 pub returns : goal.returns
 unfolding turned_by
-returns c = cc (exact_l c.before.before)
+returns c =
+    let e : reread c.args.l ≡ c.args.l = search rules in
+    cc e

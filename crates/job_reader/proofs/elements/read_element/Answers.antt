@@ -3,7 +3,7 @@ use mathlib.Core.Path.{◌≡◌, ap, ◌∙◌}
 use mir.Syntax.{w32}
 use mir.Val.{to_z, of_z}
 use borrow.Author.Rules.{rules}
-use Rattle.job.specs.Curves.{curve_of}
+use Rattle.job.specs.Curves.{curve_of, radius_allowed}
 use Rattle.job_reader.specs.Record.{read_element}
 use Rattle.job_reader.proofs.PartLaws.{handed_on}
 use Rattle.job_reader.proofs.elements.read_element.Goals as goal
@@ -19,7 +19,7 @@ returns-in_err-radius c =
     rw (
       handed_on _ c.from_residual-in_err-radius.result c.from_residual-in_err-radius.ensures.1,
       ← (c.in_ok-length.ensures ∙ c.read_within.ensures 8),
-      ← c.in_err-radius.ensures,
+      ← c.in_err-radius.ensures radius_allowed (λ z f b p. search rules),
     )
 
 pub returns : goal.returns
@@ -29,5 +29,5 @@ returns c =
     rw (
       c.curve_of-curve.ensures ∙ ap curve_of e,
       ← (c.in_ok-length.ensures ∙ c.read_within.ensures 8),
-      ← c.in_ok-radius.ensures,
+      ← c.in_ok-radius.ensures radius_allowed (λ z f b p. search rules),
     )

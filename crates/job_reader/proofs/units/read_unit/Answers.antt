@@ -3,6 +3,7 @@ use mathlib.Core.Path.{◌≡◌, ◌∙◌}
 use mir.Syntax.{w32}
 use mir.Val.{to_z, of_z}
 use borrow.Author.Rules.{rules}
+use Rattle.job.specs.Allowed.{fold_allowed}
 use Rattle.job_reader.specs.Record.{read_unit}
 use Rattle.job_reader.proofs.PartLaws.{handed_on}
 use Rattle.job_reader.proofs.units.read_unit.Goals as goal
@@ -33,7 +34,7 @@ returns-in_err-fold c =
       ← (c.in_ok-wheelbase.ensures ∙ c.read_within.ensures 4),
       ← c.hitch_most.ensures,
       ← (c.in_ok-hitch.ensures ∙ c.read_sized-sized.ensures 4),
-      ← c.in_err-fold.ensures,
+      ← c.in_err-fold.ensures (fold_allowed c.args.first) (λ z f b p. search rules),
     )
 
 pub returns-in_err-body : goal.returns-in_err-body
@@ -44,7 +45,7 @@ returns-in_err-body c =
       ← (c.in_ok-wheelbase.ensures ∙ c.read_within.ensures 4),
       ← c.hitch_most.ensures,
       ← (c.in_ok-hitch.ensures ∙ c.read_sized-sized.ensures 4),
-      ← c.in_ok-fold.ensures,
+      ← c.in_ok-fold.ensures (fold_allowed c.args.first) (λ z f b p. search rules),
       ← c.in_err-body.ensures,
     )
 
@@ -59,6 +60,6 @@ returns c =
       ← (c.in_ok-wheelbase.ensures ∙ c.read_within.ensures 4),
       ← c.hitch_most.ensures,
       ← (c.in_ok-hitch.ensures ∙ c.read_sized-sized.ensures 4),
-      ← c.in_ok-fold.ensures,
+      ← c.in_ok-fold.ensures (fold_allowed c.args.first) (λ z f b p. search rules),
       ← c.in_ok-body.ensures,
     )

@@ -1,27 +1,29 @@
--- `path::PathRoom::store` meets its contract: each run has room, and each coordinate fits it.
-use Prim.Native.Nat.{◌+◌}
-use mathlib.Core.Path.{◌≡◌, sym, subst}
-use native.Mathlib.Omega.{arith}
+-- `path::PathRoom::store` meets its contract: each coordinate fits a run's entry.
+use mathlib.Core.Path.{◌≡◌}
 use borrow.Author.Rules.{rules}
 use lib.Dec.{lit≤}
-use lib.ListN.{length}
 use Rattle.exact.proofs.Machine.{reread}
-use Rattle.plane.specs.Run.{Stored}
 use Rattle.heading.proofs.Rotation.{heading_within}
-use Rattle.path.specs.Lent.{room_runs}
-use Rattle.path.proofs.StoreLaws.{stored_entry, room}
+use Rattle.path.proofs.StoreLaws.{entry_fits, entry_kept}
 use Rattle.path.proofs.PathRoom.store.Goals as goal
 
-pub put-requires-3 : goal.put-requires-3
-put-requires-3 c =
-    let r = room (c.args.i + 1) (room_runs c.args.self.now) c.requires.room in
+pub overflow_cast-self-3 : goal.overflow_cast-self-3
+overflow_cast-self-3 c =
     let e : reread c.args.p.heading.x ≡ c.args.p.heading.x = search rules in
-    subst (Stored c.args.i (length c.args.self.now.gxs.now)) (sym e)
-    (stored_entry c.args.i _ (lit≤ tt) (omega (arith, r.2)) (heading_within c.args.p.heading c.requires.station.heading).0)
+    entry_fits (lit≤ tt) (heading_within c.args.p.heading c.requires.station.heading).0 e
 
-pub put-requires-4 : goal.put-requires-4
-put-requires-4 c =
-    let r = room (c.args.i + 1) (room_runs c.args.self.now) c.requires.room in
+pub overflow_cast-self-4 : goal.overflow_cast-self-4
+overflow_cast-self-4 c =
     let e : reread c.args.p.heading.y ≡ c.args.p.heading.y = search rules in
-    subst (Stored c.args.i (length c.args.self.now.gys.now)) (sym e)
-    (stored_entry c.args.i _ (lit≤ tt) (omega (arith, r.3)) (heading_within c.args.p.heading c.requires.station.heading).1)
+    entry_fits (lit≤ tt) (heading_within c.args.p.heading c.requires.station.heading).1 e
+
+pub returns-clause-stored : goal.returns-clause-stored
+returns-clause-stored c =
+    let p = c.args.p in
+    let s = c.requires.station in
+    let h = heading_within p.heading s.heading in
+    let x : reread p.position.x ≡ p.position.x = search rules in
+    let y : reread p.position.y ≡ p.position.y = search rules in
+    let gx : reread p.heading.x ≡ p.heading.x = search rules in
+    let gy : reread p.heading.y ≡ p.heading.y = search rules in
+    rw (entry_kept (lit≤ tt) s.x x, entry_kept (lit≤ tt) s.y y, entry_kept (lit≤ tt) h.0 gx, entry_kept (lit≤ tt) h.1 gy)
