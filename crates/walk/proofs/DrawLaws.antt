@@ -1,24 +1,23 @@
 -- A unit that can be drawn: its sizes, its hitch, its turn, and that it can be drawn again after it.
-use Prim.Native.Nat.{ℕ, ◌+◌, ◌≤◌}
+use Prim.Native.Nat.{ℕ, ◌+◌}
 use mathlib.Core.Path.{◌≡◌}
-use mathlib.Core.Bool.{Bool, true, false}
+use mathlib.Core.Bool.{false}
 use native.Mathlib.Omega.{arith}
-use lib.IntN.{ℤ, pos, neg_ℤ, nat_abs, ◌*ℤ◌}
+use lib.IntN.{neg_ℤ}
 use lib.Signed.{◌≤ℤ◌}
 use Rattle.exact.specs.Size.{Within}
 use Rattle.exact.proofs.Sizes.{≤-size, ≥-size, within_more, within_add, within_sub}
 use Rattle.plane.specs.declared.Vec2.{Vec2}
-use Rattle.plane.specs.Vector.{minus, Moderate, BothModerate}
-use Rattle.plane.specs.Length.{Near}
+use Rattle.plane.specs.Vector.{Moderate}
 use Rattle.job.specs.declared.Unit.{Unit as VehicleUnit}
-use Rattle.unit.specs.Turn.{turned_by, too_far, Wheelbase, Turnable, UnitSized}
+use Rattle.unit.specs.Turn.{turned_by, too_far, Turnable, UnitSized}
 use Rattle.unit.specs.Coupling.{hitch_offset, Hitched, Coupled}
 use Rattle.unit.proofs.UnitSizes.{near_sized, near_hitched, near_coupled}
 use Rattle.unit.proofs.Hitching.{hitch_sized}
 use Rattle.unit.proofs.UnitTests.{move_of_lem}
 use Rattle.unit.proofs.Turning.{turned_near}
 use Rattle.walk.specs.Units.{wheelbase_of, rear_axle, hitch_at}
-use Rattle.walk.specs.Inner.{UnitReady, UnitDrawn, Placed, FoldReady}
+use Rattle.walk.specs.Inner.{UnitDrawn, Placed, FoldReady}
 
 -- moderate numbers
 pub placed_moderate : {p : Vec2} → Placed p → Moderate p

@@ -6,7 +6,7 @@ use Rattle.exact.specs.Nearest.{Divisor}
 use Rattle.exact.proofs.Polynomial.{◌⊕◌, ◌⊖◌, ◌⊗◌, ◌⊜◌, neg, lit, ring2, ring3}
 use Rattle.exact.proofs.Order.{pos-≤}
 use Rattle.plane.specs.declared.Vec2.{Vec2}
-use Rattle.plane.specs.Vector.{plus, times}
+use Rattle.plane.specs.Vector.{plus}
 use Rattle.unit.specs.Coupling.{hitch_offset}
 use Rattle.unit.proofs.Hitching.{hitch_rule_lem}
 use Rattle.walk.specs.Units.{rear_axle, hitch_at}

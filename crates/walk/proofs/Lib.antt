@@ -1,4 +1,3 @@
-pub mod SizeTests
 pub mod PathTests
 pub mod VehicleTests
 pub mod VectorTests

@@ -6,11 +6,10 @@ use native.Mathlib.Omega.{arith}
 use native.Mathlib.Numerals.{add-one}
 use native.Mathlib.Decide.{dec_lt}
 use borrow.Author.Tests.{leb-true, le-leb}
-use lib.IntN.{pos, nat_abs, ◌*ℤ◌}
-use Rattle.exact.specs.Size.{Within}
+use lib.IntN.{pos, nat_abs}
 use Rattle.number.specs.Field.{size_at_most}
 use Rattle.number.proofs.FieldCodec.{both, and}
-use Rattle.plane.specs.Length.{heading_length, has_length, Near}
+use Rattle.plane.specs.Length.{heading_length, in_box, has_length}
 use Rattle.plane.proofs.Lengths.{near_of, of_near}
 use Rattle.path.specs.declared.Station.{Station}
 use Rattle.path.specs.Laying.{PathRuns, SoundStation, room_for}
@@ -19,7 +18,16 @@ use Rattle.walk.specs.Drawn.{station_at}
 use Rattle.walk.specs.Tests.{station_sound, path_sound}
 use Rattle.walk.specs.TestRequires.{StationLent}
 
--- the test of 26 lets just the sound stations pass
+-- the test of 26, by the box that a position lies in
+pub sound_by_box : (s : Station) → station_sound s ≡ (in_box s.position (pos 150000000) && has_length s.heading heading_length)
+unfolding in_box station_sound
+sound_by_box s = grouped (size_at_most 150000000 s.position.x) (size_at_most 150000000 s.position.y) (has_length s.heading heading_length)
+  where
+    grouped : (a b c : Bool) → (a && (b && c)) ≡ ((a && b) && c)
+    grouped true b c = refl
+    grouped false b c = refl
+
+-- it lets just the sound stations pass
 pub sound_station : (s : Station) → station_sound s ≡ true → SoundStation s
 unfolding station_sound
 sound_station s e =

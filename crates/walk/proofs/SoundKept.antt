@@ -1,13 +1,12 @@
 -- A placement, and a made step, leave a record that passes 27.
 use Prim.Native.Nat.{ℕ, zero, suc, ◌+◌, ◌≤◌, ◌<◌}
-use mathlib.Core.Path.{◌≡◌, refl, sym, ◌∙◌, ap, subst}
-use mathlib.Core.Bool.{Bool, true, false, ◌&&◌}
+use mathlib.Core.Path.{◌≡◌, refl, sym, subst}
+use mathlib.Core.Bool.{Bool, true, false}
 use mathlib.Core.List.{List, [], ◌∷◌, ◌++◌, map}
 use native.Mathlib.Omega.{arith}
 use borrow.Author.Tests.{lt-ltb}
-use lib.Dec.{ltb}
 use lib.ListN.{length, drop, replicate, length-map}
-use lib.Seq.{sets, sets-eq}
+use lib.Seq.{sets-eq}
 use lib.IntN.{pos, ◌*ℤ◌}
 use Rattle.number.specs.Read.{pick}
 use Rattle.number.proofs.FieldCodec.{both, and}
@@ -19,7 +18,7 @@ use Rattle.job.specs.declared.Unit.{Unit as VehicleUnit}
 use Rattle.job.specs.declared.Vehicle.{Vehicle}
 use Rattle.unit.specs.Turn.{turned_by, too_far, placed_by, Wheelbase}
 use Rattle.unit.proofs.Placing.{rule}
-use Rattle.walk.specs.Drawn.{Drawn, Call, station_at}
+use Rattle.walk.specs.Drawn.{Drawn, Call}
 use Rattle.walk.specs.Tests.{vehicle_sound, vector_sound, vectors_sound, units_in_use, record_sound, at_last}
 use Rattle.walk.specs.Units.{wheelbase_of, hitch_at, Ahead, none, behind, fold_kept, Turning, turned, stopped, onto, turn_units}
 use Rattle.walk.specs.Rig.{zero_vector, start_vectors, drawn_start, turning_of}

@@ -1,14 +1,14 @@
 -- At the placement every unit in use has its length.
-use Prim.Native.Nat.{ℕ, zero, suc, ◌+◌, ◌≤◌, ◌<◌}
-use mathlib.Core.Path.{◌≡◌, refl, sym, ◌∙◌, ap, subst}
-use mathlib.Core.Bool.{Bool, true, false, ◌&&◌}
+use Prim.Native.Nat.{ℕ, zero, suc, ◌+◌, ◌≤◌}
+use mathlib.Core.Path.{◌≡◌, sym, subst}
+use mathlib.Core.Bool.{true, ◌&&◌}
 use mathlib.Core.List.{List, [], ◌∷◌, ◌++◌, map}
 use native.Mathlib.Omega.{arith}
 use borrow.Author.Tests.{leb-true, eqb-true}
 use lib.Dec.{leb}
-use lib.ListN.{length, take, drop, replicate, length-take, length-map}
-use lib.Seq.{sets, sets-eq}
-use lib.IntN.{ℤ, pos, nat_abs, ◌*ℤ◌}
+use lib.ListN.{length, drop, replicate, length-take, length-map}
+use lib.Seq.{sets-eq}
+use lib.IntN.{pos, ◌*ℤ◌}
 use Rattle.number.proofs.FieldCodec.{both}
 use Rattle.number.specs.Field.{size_at_most}
 use Rattle.plane.specs.declared.Vec2.{Vec2}

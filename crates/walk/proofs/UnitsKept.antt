@@ -1,12 +1,12 @@
 -- The units of a step: where all turn, each keeps its length and stays near the rigid unit.
-use Prim.Native.Nat.{ℕ, zero, suc, ◌+◌, ◌≤◌, ◌<◌}
-use mathlib.Core.Path.{◌≡◌, refl, sym, ◌∙◌, ap, subst}
+use Prim.Native.Nat.{ℕ, ◌+◌}
+use mathlib.Core.Path.{◌≡◌, refl, subst}
 use mathlib.Core.Bool.{Bool, true, false, ◌&&◌}
 use mathlib.Core.List.{List, [], ◌∷◌}
 use native.Mathlib.Omega.{arith}
 use borrow.Author.Tests.{eqb-true}
 use lib.Dec.{eqb}
-use lib.IntN.{ℤ, pos, ◌*ℤ◌}
+use lib.IntN.{pos, ◌*ℤ◌}
 use Rattle.number.specs.Read.{pick}
 use Rattle.number.proofs.FieldCodec.{both}
 use Rattle.plane.specs.declared.Vec2.{Vec2}
@@ -18,7 +18,7 @@ use Rattle.job.specs.declared.Vehicle.{Vehicle}
 use Rattle.job.specs.Allowed.{wheelbase_allowed, hitch_allowed, fold_allowed, unit_allowed}
 use Rattle.job.specs.Faults.{fault_of, measures_fault, body_fault, unit_fault_at, units_fault, vehicle_fault}
 use Rattle.job.proofs.FaultLaws.{sound_vehicle, first_none, or_none}
-use Rattle.unit.specs.Turn.{turned_by, too_far, mirror_line, image, Wheelbase, Turnable}
+use Rattle.unit.specs.Turn.{turned_by, too_far, Wheelbase}
 use Rattle.unit.proofs.UnitTests.{wheelbase_of_lem, move_of_lem}
 use Rattle.unit.proofs.Turning.{rule}
 use Rattle.walk.specs.Tests.{vehicle_sound, units_in_use}

@@ -1,14 +1,14 @@
 -- The units turned one after the other: what is left to turn, after what is turned, is the whole.
-use Prim.Native.Nat.{ℕ, zero, suc, ◌+◌, ◌*◌, ◌≤◌, ◌<◌}
+use Prim.Native.Nat.{ℕ, ◌+◌, ◌*◌, ◌≤◌, ◌<◌}
 use mathlib.Core.Path.{◌≡◌, refl, sym, ◌∙◌, ap, ap₂, subst}
 use mathlib.Core.Bool.{Bool, true, false}
 use mathlib.Core.List.{List, [], ◌∷◌, ◌++◌, append_assoc}
 use native.Mathlib.Omega.{arith}
 use native.Mathlib.Numerals.{add-one}
-use borrow.Author.Tests.{lt-ltb, eqb-true, eqb-false}
-use lib.Dec.{ltb, eqb}
-use lib.ListN.{length, take, drop, get_or, set, length-set, length-take, take-append-drop, drop_of_length-le}
-use lib.Seq.{drop-cons, get_or-take, take-suc-set, drop-set-lt, get_or-set_same, get_or-set_other}
+use borrow.Author.Tests.{lt-ltb}
+use lib.Dec.{ltb}
+use lib.ListN.{length, take, drop, get_or, set, length-drop, take-append-drop}
+use lib.Seq.{drop-cons, drop-drop, take-suc-set, drop-set-lt}
 use Rattle.exact.specs.Size.{Within}
 use Rattle.exact.proofs.Sizes.{within_more}
 use Rattle.number.specs.Read.{pick}
@@ -19,10 +19,11 @@ use Rattle.job.specs.declared.Vehicle.{Vehicle}
 use Rattle.job.specs.Empty.{empty_unit}
 use Rattle.refusal.specs.Numbers.{answered, refused}
 use Rattle.unit.specs.Turn.{turned_by, too_far}
+use Rattle.path.proofs.TotalLaws.{taken_next, taken_end}
 use Rattle.walk.specs.Tests.{units_in_use}
 use Rattle.walk.specs.Units.{wheelbase_of, hitch_at, Ahead, none, behind, fold_kept, Turning, turned, stopped, onto, turn_units}
 use Rattle.walk.specs.Rig.{zero_vector}
-use Rattle.walk.specs.Inner.{next_turn, ahead_if, UnitDrawn, Placed, HitchReady, TurnReady, UnitsReady}
+use Rattle.walk.specs.Inner.{next_turn, ahead_if, UnitDrawn, Placed, HitchReady, TurnReady, RigReady, UnitsReady}
 use Rattle.walk.proofs.DrawLaws.{drawn_again, hitch_within}
 
 -- one unit, from what its own turn answered
@@ -68,24 +69,20 @@ unfolding turn_units
 turned_rest i a [] old new = refl
 turned_rest i a (d ∷ ds) old new = refl
 
--- after i units: the vectors `out`, the front points of the next unit, and the unit ahead of it
-pub record UnitsLeft (us : List VehicleUnit) (whole : Turning) (i : ℕ) (out : List Vec2) (old new : Vec2) (lead : VehicleUnit) (ahead : Vec2) : Type 0 where
-  pub same : prefixed (take i out) (turn_units (i + 1) (ahead_if (ltb 0 i) lead ahead) (drop i us) (drop i out) old new) ≡ whole
-  pub within : i ≤ length us
-  pub long : length out ≡ 4
-  pub drawn : (k : ℕ) → k < length us → UnitDrawn (get_or us k empty_unit) (get_or out k zero_vector)
+-- after i units: the vectors `out`, turned as far as i, the front points of the next unit, and the unit ahead of it
+pub record UnitsLeft (v : Vehicle) (ds : List Vec2) (whole : Turning) (i : ℕ) (out : List Vec2) (old new : Vec2) (lead : VehicleUnit) (ahead : Vec2) : Type 0 where
+  pub same : prefixed (take i out) (turn_units (i + 1) (ahead_if (ltb 0 i) lead ahead) (drop i (units_in_use v)) (drop i ds) old new) ≡ whole
+  pub rest : drop i out ≡ drop i ds
   pub leading : UnitDrawn lead ahead
   pub from : Within (150000000 + 400000 * i) old.x × Within (150000000 + 400000 * i) old.y
   pub to : Within (150000000 + 400000 * i) new.x × Within (150000000 + 400000 * i) new.y
 
 -- before the first unit
-pub units_start : (v : Vehicle) (ds : List Vec2) (old new : Vec2) → length v.units ≡ 4 → length ds ≡ 4 → UnitsReady v ds old new
-    → UnitsLeft (units_in_use v) (turn_units 1 none (units_in_use v) ds old new) 0 ds old new (get_or v.units 0 empty_unit) (get_or ds 0 zero_vector)
-units_start v ds old new n m r = record {
+pub units_start : (v : Vehicle) (ds : List Vec2) (old new : Vec2) → UnitsReady v ds old new
+    → UnitsLeft v ds (turn_units 1 none (units_in_use v) ds old new) 0 ds old new (get_or v.units 0 empty_unit) (get_or ds 0 zero_vector)
+units_start v ds old new r = record {
   same = first (turn_units 1 none (units_in_use v) ds old new);
-  within = omega arith;
-  long = m;
-  drawn = λ k h. let l : k < v.count = omega (arith, length-take v.count v.units) in rw (get_or-take v.count v.units k empty_unit l) (r.rig.units k l);
+  rest = refl;
   leading = r.rig.units 0 (omega (arith, r.rig.least));
   from = (r.old_x, r.old_y);
   to = (r.new_x, r.new_y);
@@ -108,78 +105,84 @@ turned_drawn a u d old new x t e = by (too_far (minus new old) (wheelbase_of u))
     by false true p q = let z : v ≡ x = cc in subst (UnitDrawn u) z (drawn_again t (minus new old) p)
     by false false p q = absurd (let z : ◌≡◌ {A = ℕ} 0 1 = cc in omega arith)
 
-module _ {us : List VehicleUnit} {whole : Turning} {i : ℕ} {out : List Vec2} {old new : Vec2} {lead : VehicleUnit} {ahead : Vec2}
-    (l : UnitsLeft us whole i out old new lead ahead) (h : i < length us) (short : length us ≤ 4) where
+module _ {v : Vehicle} {ds : List Vec2} {whole : Turning} {i : ℕ} {out : List Vec2} {old new : Vec2} {lead : VehicleUnit} {ahead : Vec2}
+    (l : UnitsLeft v ds whole i out old new lead ahead) (r : RigReady v ds) (units : length v.units ≡ 4) (vectors : length ds ≡ 4) (h : i < v.count) where
   abbrev u : VehicleUnit
-  u = get_or us i empty_unit
+  u = get_or v.units i empty_unit
 
-  abbrev e : Vec2
-  e = get_or out i zero_vector
+  abbrev d : Vec2
+  d = get_or ds i zero_vector
 
   abbrev a : Ahead
   a = ahead_if (ltb 0 i) lead ahead
 
-  units_split : drop i us ≡ u ∷ drop (i + 1) us
-  units_split = drop-cons us i empty_unit h ∙ rw add-one
+  abbrev us : List VehicleUnit
+  us = drop (i + 1) (units_in_use v)
 
-  vectors_split : drop i out ≡ e ∷ drop (i + 1) out
-  vectors_split = drop-cons out i zero_vector (omega (arith, l.long)) ∙ rw add-one
+  abbrev later : List Vec2
+  later = drop (i + 1) ds
 
-  here : turn_units (i + 1) a (drop i us) (drop i out) old new ≡ turn_units (i + 1) a (u ∷ drop (i + 1) us) (e ∷ drop (i + 1) out) old new
-  here = ap₂ (λ (xs : List VehicleUnit) (ds : List Vec2). turn_units (i + 1) a xs ds old new) units_split vectors_split
+  inside : i < 4
+  inside = omega (arith, r.most)
+
+  units_split : drop i (units_in_use v) ≡ u ∷ us
+  units_split = taken_next v.units v.count i empty_unit (omega (arith, r.most)) h
+
+  vectors_split : drop i ds ≡ d ∷ later
+  vectors_split = drop-cons ds i zero_vector (omega (arith, inside)) ∙ rw add-one
+
+  here : turn_units (i + 1) a (drop i (units_in_use v)) (drop i ds) old new ≡ turn_units (i + 1) a (u ∷ us) (d ∷ later) old new
+  here = ap₂ (λ (xs : List VehicleUnit) (zs : List Vec2). turn_units (i + 1) a xs zs old new) units_split vectors_split
 
   place : {p : Vec2} → Within (150000000 + 400000 * i) p.x × Within (150000000 + 400000 * i) p.y → Placed p
-  place w = record { x = within_more (omega arith) w.0; y = within_more (omega arith) w.1 }
+  place w = record { x = within_more (omega (arith, inside)) w.0; y = within_more (omega (arith, inside)) w.1 }
 
-  pub turn_ready : TurnReady (ltb 0 i) lead u ahead e old new
-  turn_ready = record { unit = l.drawn i h; lead = l.leading; from = place l.from; to = place l.to }
+  pub turn_ready : TurnReady (ltb 0 i) lead u ahead d old new
+  turn_ready = record { unit = r.units i h; lead = l.leading; from = place l.from; to = place l.to }
 
-  pub stopped_here : (n : ℕ) → next_turn a u e old new ≡ refused n → stopped n (i + 1) ≡ whole
-  stopped_here n q = ap (prefixed (take i out)) (sym (here ∙ refused_next (i + 1) a u (drop (i + 1) us) e (drop (i + 1) out) old new n q)) ∙ l.same
+  pub stopped_here : (n : ℕ) → refused n ≡ next_turn a u d old new → stopped n (i + 1) ≡ whole
+  stopped_here n q = ap (prefixed (take i out)) (sym (here ∙ refused_next (i + 1) a u us d later old new n (sym q))) ∙ l.same
 
-  pub hitch_from : HitchReady u old e
-  hitch_from = record { unit = l.drawn i h; place = place l.from }
+  pub hitch_from : HitchReady u old d
+  hitch_from = record { unit = r.units i h; place = place l.from }
 
-  module _ (x : Vec2) (q : next_turn a u e old new ≡ answered x) where
+  module _ (x : Vec2) (q : answered x ≡ next_turn a u d old new) where
     pub again : UnitDrawn u x
-    again = turned_drawn a u e old new x (l.drawn i h) q
+    again = turned_drawn a u d old new x (r.units i h) (sym q)
 
     pub hitch_to : HitchReady u new x
     hitch_to = record { unit = again; place = place l.to }
 
-    drawn_next : (k : ℕ) → k < length us → UnitDrawn (get_or us k empty_unit) (get_or (set out i x) k zero_vector)
-    drawn_next k g = by (eqb k i) refl
-      where
-        by : (t : Bool) → eqb k i ≡ t → UnitDrawn (get_or us k empty_unit) (get_or (set out i x) k zero_vector)
-        by true t = rw (eqb-true k i t, get_or-set_same out i x zero_vector (omega (arith, l.long))) again
-        by false t = rw (get_or-set_other out i k x zero_vector (eqb-false k i t)) (l.drawn k g)
+    long : i < length out
+    long = omega (arith, length-drop i out, length-drop i ds, ap length l.rest, inside)
 
-    same_next : prefixed (take (i + 1) (set out i x)) (turn_units (i + 1 + 1) (ahead_if (ltb 0 (i + 1)) u x) (drop (i + 1) us) (drop (i + 1) (set out i x)) (hitch_at u old e) (hitch_at u new x)) ≡ whole
+    same_next : prefixed (take (i + 1) (set out i x)) (turn_units (i + 1 + 1) (ahead_if (ltb 0 (i + 1)) u x) us later (hitch_at u old d) (hitch_at u new x)) ≡ whole
     same_next =
-        let left : take (i + 1) (set out i x) ≡ take i out ++ (x ∷ []) = rw add-one (take-suc-set out i x (omega (arith, l.long))) in
-        let right : drop (i + 1) (set out i x) ≡ drop (i + 1) out = drop-set-lt (i + 1) out i x (omega arith) in
+        let left : take (i + 1) (set out i x) ≡ take i out ++ (x ∷ []) = rw add-one (take-suc-set out i x long) in
         let led : ltb 0 (i + 1) ≡ true = lt-ltb 0 (i + 1) (omega arith) in
-        rw (left, right, led)
-        (sym (prefixed_onto (take i out) x (turn_units (i + 1 + 1) (behind u x) (drop (i + 1) us) (drop (i + 1) out) (hitch_at u old e) (hitch_at u new x)))
-        ∙ ap (prefixed (take i out)) (sym (here ∙ turned_next (i + 1) a u (drop (i + 1) us) e (drop (i + 1) out) old new x q)) ∙ l.same)
+        rw (left, led)
+        (sym (prefixed_onto (take i out) x (turn_units (i + 1 + 1) (behind u x) us later (hitch_at u old d) (hitch_at u new x)))
+        ∙ ap (prefixed (take i out)) (sym (here ∙ turned_next (i + 1) a u us d later old new x (sym q))) ∙ l.same)
+
+    rest_next : drop (i + 1) (set out i x) ≡ later
+    rest_next = drop-set-lt (i + 1) out i x (omega arith) ∙ rw (← drop-drop 1 i out, ← drop-drop 1 i ds) (ap (drop 1) l.rest)
 
     farther : {p : Vec2} → Within (150000000 + 400000 * i + 400000) p.x × Within (150000000 + 400000 * i + 400000) p.y → Within (150000000 + 400000 * (i + 1)) p.x × Within (150000000 + 400000 * (i + 1)) p.y
     farther w = (within_more (omega arith) w.0, within_more (omega arith) w.1)
 
-    pub units_next : UnitsLeft us whole (i + 1) (set out i x) (hitch_at u old e) (hitch_at u new x) u x
+    pub units_next : UnitsLeft v ds whole (i + 1) (set out i x) (hitch_at u old d) (hitch_at u new x) u x
     units_next = record {
       same = same_next;
-      within = omega arith;
-      long = simp length-set l.long;
-      drawn = drawn_next;
+      rest = rest_next;
       leading = again;
-      from = farther (hitch_within (l.drawn i h) old (150000000 + 400000 * i) l.from);
+      from = farther (hitch_within (r.units i h) old (150000000 + 400000 * i) l.from);
       to = farther (hitch_within again new (150000000 + 400000 * i) l.to);
     }
 
 -- after the last unit
-pub units_done : {us : List VehicleUnit} {whole : Turning} {i : ℕ} {out : List Vec2} {old new : Vec2} {lead : VehicleUnit} {ahead : Vec2}
-    → UnitsLeft us whole i out old new lead ahead → length us ≤ i → turned out ≡ whole
-units_done {us} {whole} {i} {out} {old} {new} {lead} {ahead} l h =
-    let end = ap (λ (xs : List VehicleUnit). turn_units (i + 1) (ahead_if (ltb 0 i) lead ahead) xs (drop i out) old new) (drop_of_length-le us {i = i} h) ∙ turned_rest (i + 1) (ahead_if (ltb 0 i) lead ahead) (drop i out) old new in
-    ap turned (sym (take-append-drop i out)) ∙ ap (prefixed (take i out)) (sym end) ∙ l.same
+pub units_done : {v : Vehicle} {ds : List Vec2} {whole : Turning} {i : ℕ} {out : List Vec2} {old new : Vec2} {lead : VehicleUnit} {ahead : Vec2}
+    → UnitsLeft v ds whole i out old new lead ahead → v.count ≤ i → turned out ≡ whole
+units_done {v} {ds} {whole} {i} {out} {old} {new} {lead} {ahead} l h =
+    let a = ahead_if (ltb 0 i) lead ahead in
+    let end = ap (λ (xs : List VehicleUnit). turn_units (i + 1) a xs (drop i ds) old new) (taken_end v.units v.count i h) ∙ turned_rest (i + 1) a (drop i ds) old new in
+    ap turned (sym (take-append-drop i out) ∙ ap (λ (zs : List Vec2). take i out ++ zs) l.rest) ∙ ap (prefixed (take i out)) (sym end) ∙ l.same

@@ -1,13 +1,14 @@
 -- The drawn rig (01, "The two rigs of demand 3"): its state, what it is fed and what it answers. It reads no program record.
-use Rattle.std.specs.Prelude.{ℕ, List}
+use Rattle.std.specs.Prelude.{ℕ, List, Result, Ok, Err}
+use Rattle.refusal.specs.Numbers.{number_of}
 use Rattle.plane.specs.declared.Vec2.{Vec2}
 use Rattle.job.specs.declared.Vehicle.{Vehicle}
 use Rattle.path.specs.Laying.{PathRuns}
 -- a station of a path is what laying has there
 pub use Rattle.path.specs.Laying.{station_at}
 use Rattle.walk.specs.declared.Walk.{Walk}
-use Rattle.walk.specs.declared.StepAnswer.{StepAnswer}
-use Rattle.walk.specs.declared.StepAnswer.TheVariants as S
+use Rattle.walk.specs.declared.StepRefusal.{StepRefusal}
+use Rattle.walk.specs.declared.StepRefusal.TheVariants as S
 
 -- "Its state is the vehicle, a station k and a vector d for each unit"
 pub record Drawn : Type 0 where
@@ -38,7 +39,7 @@ pub data Outcome : Type 0 where
   refused_at : ℕ → ℕ → Outcome
 
 -- the same, of the program's answer
-abbrev pub outcome_of : StepAnswer → Outcome
-outcome_of S.Made = made
-outcome_of (S.Refused n) = refused n
-outcome_of (S.RefusedUnit n u) = refused_at n u
+abbrev pub outcome_of : Result (Unit {0}) StepRefusal → Outcome
+outcome_of (Ok u) = made
+outcome_of (Err (S.Call f)) = refused (number_of f)
+outcome_of (Err (S.Unit r)) = refused_at (number_of r.fault) r.unit

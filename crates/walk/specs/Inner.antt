@@ -1,5 +1,5 @@
 -- What the inner functions of a walk work with, and what they require of their callers.
-use Rattle.std.specs.Prelude.{ℕ, ◌≤◌, ◌<◌, Bool, List, [], ◌∷◌, get_or, ℤ, pos, nat_abs, ◌*ℤ◌}
+use Rattle.std.specs.Prelude.{ℕ, ◌≤◌, ◌<◌, Bool, List, get_or, Result, Ok, Err, pos, nat_abs, ◌*ℤ◌}
 use Rattle.exact.specs.Size.{Within}
 use Rattle.number.specs.Read.{pick}
 use Rattle.plane.specs.declared.Vec2.{Vec2}
@@ -8,10 +8,9 @@ use Rattle.plane.specs.Length.{Near}
 use Rattle.job.specs.declared.Unit.{Unit as VehicleUnit}
 use Rattle.job.specs.declared.Vehicle.{Vehicle}
 use Rattle.job.specs.Empty.{empty_unit}
-use Rattle.refusal.specs.Numbers.{Answer, answered, refused}
+use Rattle.refusal.specs.Numbers.{number_of, Answer, answered, refused}
 use Rattle.unit.specs.Turn.{turned_by, too_far, Wheelbase}
-use Rattle.walk.specs.declared.Turns.TheVariants as T
-use Rattle.walk.specs.declared.UnitsTurned.{UnitsTurned}
+use Rattle.walk.specs.declared.UnitRefusal.{UnitRefusal}
 use Rattle.walk.specs.Units.{wheelbase_of, Ahead, none, behind, fold_kept, Turning, turned, stopped}
 use Rattle.walk.specs.Rig.{zero_vector}
 
@@ -26,10 +25,10 @@ next_turn ahead u d old new =
 abbrev pub ahead_if : Bool → VehicleUnit → Vec2 → Ahead
 ahead_if t a d = pick t (behind a d) none
 
--- the turns of all units, as the code answers them: a refusal stands beside the vectors `ds` that were handed in
-abbrev pub units_turned : List Vec2 → Turning → UnitsTurned
-units_turned ds (turned es) = record { turns = T.All; d = es }
-units_turned ds (stopped n i) = record { turns = T.Stopped n i; d = ds }
+-- the turns of all units, of what the code answers
+abbrev pub as_turning : Result (List Vec2) UnitRefusal → Turning
+as_turning (Ok ds) = turned ds
+as_turning (Err r) = stopped (number_of r.fault) r.unit
 
 -- a unit whose measures are in the job's range
 pub record UnitReady (u : VehicleUnit) : Type 0 where

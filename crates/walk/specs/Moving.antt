@@ -5,11 +5,10 @@ use Rattle.plane.specs.Length.{heading_length, Near}
 use Rattle.job.specs.declared.Vehicle.{Vehicle}
 use Rattle.job.specs.Empty.{empty_unit}
 use Rattle.walk.specs.declared.Walk.{Walk}
-use Rattle.walk.specs.declared.Advanced.{Advanced}
-use Rattle.walk.specs.Drawn.{view, Outcome, made, outcome_of}
+use Rattle.walk.specs.Drawn.{view, Outcome, made}
 use Rattle.walk.specs.Tests.{units_in_use}
 use Rattle.walk.specs.Units.{none, turn_units}
-use Rattle.walk.specs.Rig.{Stepped, after_turning}
+use Rattle.walk.specs.Rig.{after_turning}
 use Rattle.walk.specs.Inner.{UnitReady, UnitsReady}
 
 -- what the start asks: measures in the job's range, and a heading
@@ -23,7 +22,12 @@ pub record AdvanceReady (w : Walk) (old new : Vec2) : Type 0 where
   pub units : UnitsReady w.vehicle w.d old new
   pub station : w.station ≤ 2001
 
+-- what a step answers, and the record that it leaves
+pub record Advanced : Type 0 where
+  pub answer : Outcome
+  pub walk : Walk
+
 -- the answer and the state are those of the units' turns; a refused step leaves the record as it was
 pub record AdvanceEnsures (w : Walk) (old new : Vec2) (r : Advanced) : Type 0 where
-  pub stepped : record { answer = outcome_of r.answer; state = view r.walk } ≡ after_turning (view w) (turn_units 1 none (units_in_use w.vehicle) w.d old new)
-  pub unchanged : (outcome_of r.answer ≡ made → ⊥) → r.walk ≡ w
+  pub stepped : record { answer = r.answer; state = view r.walk } ≡ after_turning (view w) (turn_units 1 none (units_in_use w.vehicle) w.d old new)
+  pub unchanged : (r.answer ≡ made → ⊥) → r.walk ≡ w

@@ -1,5 +1,5 @@
 -- The drawn rig's start and its step (01, "The two rigs of demand 3").
-use Rattle.std.specs.Prelude.{ℕ, ◌+◌, Bool, List, map, replicate, pos}
+use Rattle.std.specs.Prelude.{ℕ, ◌+◌, List, map, replicate, pos}
 use Rattle.std.proofs.lemmas.List.Edits.{sets}
 use Rattle.number.specs.Read.{pick}
 use Rattle.plane.specs.declared.Vec2.{Vec2}
@@ -8,7 +8,7 @@ use Rattle.job.specs.declared.Vehicle.{Vehicle}
 use Rattle.unit.specs.Turn.{placed_by}
 use Rattle.walk.specs.Drawn.{Drawn, Call, station_at, Outcome, made, refused, refused_at}
 use Rattle.walk.specs.Tests.{lent, path_sound, record_sound, at_last, units_in_use}
-use Rattle.walk.specs.Units.{wheelbase_of, Ahead, none, Turning, turned, stopped, turn_units}
+use Rattle.walk.specs.Units.{wheelbase_of, none, Turning, turned, stopped, turn_units}
 
 abbrev pub zero_vector : Vec2
 zero_vector = record { x = pos 0; y = pos 0 }

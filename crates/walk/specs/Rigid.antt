@@ -1,5 +1,5 @@
 -- The rigid unit, and how near the drawn rig stays to it (01, "The two rigs of demand 3").
-use Rattle.std.specs.Prelude.{◌+◌, ◌≡◌, true, List, [], ◌∷◌, ℤ, pos, ◌*ℤ◌, ◌≤ℤ◌, ◌<ℤ◌}
+use Rattle.std.specs.Prelude.{◌+◌, ◌≡◌, true, List, [], ◌∷◌, pos, ◌*ℤ◌, ◌≤ℤ◌, ◌<ℤ◌}
 use Rattle.plane.specs.declared.Vec2.{Vec2}
 use Rattle.plane.specs.Vector.{dot, norm_sq, minus, right_normal}
 use Rattle.plane.specs.Length.{heading_length, Near}

@@ -6,6 +6,7 @@ ghost use Rattle.walk.specs.Hitches.{HitchPlace};
 
 use job::Vehicle;
 use plane::Vec2;
+use refusal::Fault;
 
 pub mod moving;
 pub mod tests;
@@ -19,33 +20,18 @@ pub struct Walk {
     pub d: [Vec2; 4],
 }
 
-// What a step answers: made, refused, or refused at a unit, counted from 1.
-#[derive(Clone, Copy)]
-pub enum StepAnswer {
-    Made,
-    Refused(u8),
-    RefusedUnit(u8, usize),
+// A unit, counted from 1, that may not turn, and why.
+#[derive(Clone, Copy, PartialEq, Eq)]
+pub struct UnitRefusal {
+    pub fault: Fault,
+    pub unit: usize,
 }
 
-// Whether all units turned, or the refusal and the unit, counted from 1.
-#[derive(Clone, Copy)]
-pub enum Turns {
-    All,
-    Stopped(u8, usize),
-}
-
-// The vectors of the units after a step, or as they were where one was refused.
-#[derive(Clone, Copy)]
-pub struct UnitsTurned {
-    pub turns: Turns,
-    pub d: [Vec2; 4],
-}
-
-// What a step answers, with the record that it leaves.
-#[derive(Clone, Copy)]
-pub struct Advanced {
-    pub answer: StepAnswer,
-    pub walk: Walk,
+// Why a step is refused: for the call as a whole, or at a unit.
+#[derive(Clone, Copy, PartialEq, Eq)]
+pub enum StepRefusal {
+    Call(Fault),
+    Unit(UnitRefusal),
 }
 
 // Claim: the vectors of a placement have their lengths, a call of the drawn rig keeps them, and a made step stays near the rigid unit.

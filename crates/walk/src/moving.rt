@@ -1,10 +1,10 @@
 // The record of a walk, at the start and from step to step. Nothing here writes a run.
 ghost use Rattle.std.specs.Prelude.{◌≡◌};
-ghost use Rattle.walk.specs.Drawn.{view};
+ghost use Rattle.walk.specs.Drawn.{view, outcome_of};
 ghost use Rattle.walk.specs.Rig.{start_vectors, drawn_start};
 ghost use Rattle.walk.specs.Moving.{AdvanceEnsures, AdvanceReady, StartReady};
 
-use crate::{Advanced, StepAnswer, Turns, Walk};
+use crate::{StepRefusal, Walk};
 use job::Vehicle;
 use plane::Vec2;
 
@@ -13,14 +13,9 @@ fn start_vectors(v: Vehicle, g: Vec2) -> [Vec2; 4]
     requires { StartReady v g }
     ensures { result ≡ start_vectors v g }
 {
-    let count = v.count;
-    let units = v.units;
     let mut d = [Vec2 { x: 0, y: 0 }; 4];
-    let mut i: usize = 0;
-    while i < count {
-        let u = units[i];
-        d[i] = unit::placed(g, exact::wide(u.wheelbase));
-        i += 1;
+    for i in 0..v.count {
+        d[i] = unit::placed(g, i64::from(v.units[i].wheelbase));
     }
     d
 }
@@ -30,38 +25,24 @@ pub fn start(v: Vehicle, g: Vec2) -> Walk
     requires { StartReady v g }
     ensures { view result ≡ drawn_start v g }
 {
-    let d = start_vectors(v, g);
     Walk {
         vehicle: v,
         station: 0,
-        d,
+        d: start_vectors(v, g),
     }
 }
 
-// A step of the rig whose first front point goes from old to new: the record that it leaves, or the same record with the refusal.
-pub fn advance(w: Walk, old: Vec2, new: Vec2) -> Advanced
-    requires { AdvanceReady w old new }
-    ensures { AdvanceEnsures w old new result }
+// A step of the rig whose first front point goes from old to new; refused, it leaves the record as it was.
+pub fn advance(w: &mut Walk, old: Vec2, new: Vec2) -> Result<(), StepRefusal>
+    requires { AdvanceReady w.old old new }
+    ensures { AdvanceEnsures w.old old new (record { answer = outcome_of result; walk = w.new }) }
 {
-    let d = w.d;
-    let t = crate::units::turn_units(w.vehicle, d, old, new);
-    let turns = t.turns;
-    match turns {
-        Turns::All => {
-            let turned = t.d;
-            let vehicle = w.vehicle;
-            Advanced {
-                answer: StepAnswer::Made,
-                walk: Walk {
-                    vehicle,
-                    station: w.station + 1,
-                    d: turned,
-                },
-            }
+    match crate::units::turn_units(w.vehicle, w.d, old, new) {
+        Ok(turned) => {
+            w.station += 1;
+            w.d = turned;
+            Ok(())
         }
-        Turns::Stopped(n, i) => Advanced {
-            answer: StepAnswer::RefusedUnit(n, i),
-            walk: w,
-        },
+        Err(refusal) => Err(StepRefusal::Unit(refusal)),
     }
 }

@@ -1,26 +1,26 @@
 // The tests of a walk.
 ghost use Rattle.std.specs.Prelude.{◌≡◌, ◌+◌, leb, drop};
-ghost use Rattle.number.specs.Field.{size_at_most};
-ghost use Rattle.path.specs.Laying.{path_runs};
+ghost use Rattle.path.specs.Lent.{path_of};
 ghost use Rattle.walk.specs.Drawn.{view, station_at};
 ghost use Rattle.walk.specs.Tests.{path_lent, reaches_lent, station_sound, path_sound, vehicle_sound, is_zero, vector_sound, vectors_sound, units_in_use, record_sound};
 ghost use Rattle.walk.specs.TestRequires.{StationLent, PathLent, VehicleTested};
 
 use crate::Walk;
 use job::Vehicle;
-use path::Station;
+use path::{Path, Station};
 use plane::Vec2;
 
 // 21 for the path: the stations asked for are from 1 to 2,001, and each of its four runs has as many.
-pub fn path_lent(asked: usize, xs: &[i32], ys: &[i32], gxs: &[i32], gys: &[i32]) -> bool
-    ensures { result ≡ path_lent asked (path_runs xs.now ys.now gxs.now gys.now) }
+pub fn path_lent(asked: usize, path: Path) -> bool
+    ensures { result ≡ path_lent asked (path_of path.entry) }
 {
     ((1 <= asked) & (asked <= 2001))
-        & ((asked <= xs.len())
-            & ((asked <= ys.len()) & ((asked <= gxs.len()) & (asked <= gys.len()))))
+        & ((asked <= path.xs.len())
+            & ((asked <= path.ys.len()) & ((asked <= path.gxs.len()) & (asked <= path.gys.len()))))
 }
 
 // 21 for the other three runs, by their lengths.
+// Kept: the new form is no plainer: each caller would build a struct of the three lengths for this one call.
 pub fn reaches_lent(asked: usize, left: usize, right: usize, marks: usize) -> bool
     ensures { result ≡ reaches_lent asked (record { left = left; right = right; marks = marks }) }
 {
@@ -28,55 +28,43 @@ pub fn reaches_lent(asked: usize, left: usize, right: usize, marks: usize) -> bo
 }
 
 // Station i of a path.
-pub fn station_at(xs: &[i32], ys: &[i32], gxs: &[i32], gys: &[i32], i: usize) -> Station
-    requires { StationLent i (path_runs xs.now ys.now gxs.now gys.now) }
-    ensures { result ≡ station_at (path_runs xs.now ys.now gxs.now gys.now) i }
+pub fn station_at(path: Path, i: usize) -> Station
+    requires { StationLent i (path_of path) }
+    ensures { result ≡ station_at (path_of path.entry) i }
 {
-    let x = xs[i] as i64;
-    let y = ys[i] as i64;
-    let gx = gxs[i] as i64;
-    let gy = gys[i] as i64;
     Station {
-        position: Vec2 { x, y },
-        heading: Vec2 { x: gx, y: gy },
+        position: Vec2 {
+            x: i64::from(path.xs[i]),
+            y: i64::from(path.ys[i]),
+        },
+        heading: Vec2 {
+            x: i64::from(path.gxs[i]),
+            y: i64::from(path.gys[i]),
+        },
     }
 }
 
-// Whether a number is no larger than so much, whatever its sign.
-fn size_at_most(z: i64, most: u32) -> bool
-    ensures { result ≡ size_at_most most z }
-{
-    let bound = most as i64;
-    (0 - bound <= z) & (z <= bound)
-}
-
+#[tactic(auto, using(crate::proofs::PathTests::sound_by_box))]
 pub fn station_sound(s: Station) -> bool
     ensures { result ≡ station_sound s }
 {
-    let position = s.position;
-    let heading = s.heading;
-    let x = position.x;
-    let y = position.y;
-    size_at_most(x, 150000000) & (size_at_most(y, 150000000) & plane::has_length(heading, 1000000))
+    plane::in_box(s.position, 150000000) && plane::has_length(s.heading, 1000000)
 }
 
 // 26: every station asked for is sound.
-pub fn path_sound(asked: usize, xs: &[i32], ys: &[i32], gxs: &[i32], gys: &[i32]) -> bool
-    requires { PathLent asked (path_runs xs.now ys.now gxs.now gys.now) }
-    ensures { result ≡ path_sound asked (path_runs xs.now ys.now gxs.now gys.now) }
+pub fn path_sound(asked: usize, path: Path) -> bool
+    requires { PathLent asked (path_of path) }
+    ensures { result ≡ path_sound asked (path_of path.entry) }
 {
-    let mut i: usize = 0;
-    while i < asked {
-        let s = station_at(xs, ys, gxs, gys, i);
-        if station_sound(s) {
-            i += 1;
-        } else {
+    for i in 0..asked {
+        if !station_sound(station_at(path, i)) {
             return false;
         }
     }
     true
 }
 
+#[tactic(auto, using(job::proofs::FaultLaws::ok_by_number), unfolding(crate::specs::Tests::vehicle_sound))]
 pub fn vehicle_sound(v: Vehicle) -> bool
     ensures { result ≡ vehicle_sound v }
 {
@@ -86,9 +74,7 @@ pub fn vehicle_sound(v: Vehicle) -> bool
 fn is_zero(d: Vec2) -> bool
     ensures { result ≡ is_zero d }
 {
-    let x = d.x;
-    let y = d.y;
-    size_at_most(x, 0) & size_at_most(y, 0)
+    (d.x == 0) & (d.y == 0)
 }
 
 // The vector at place k: that of a unit in use has its length, any other is zero.
@@ -97,9 +83,7 @@ fn vector_sound(v: Vehicle, k: usize, d: Vec2) -> bool
     ensures { result ≡ vector_sound (drop k (units_in_use v)) d }
 {
     if k < v.count {
-        let units = v.units;
-        let u = units[k];
-        return plane::has_length(d, exact::wide(u.wheelbase));
+        return plane::has_length(d, i64::from(v.units[k].wheelbase));
     }
     is_zero(d)
 }
@@ -108,12 +92,8 @@ fn vectors_sound(v: Vehicle, d: [Vec2; 4]) -> bool
     requires { VehicleTested v }
     ensures { result ≡ vectors_sound (units_in_use v) d }
 {
-    let mut k: usize = 0;
-    while k < 4 {
-        let e = d[k];
-        if vector_sound(v, k, e) {
-            k += 1;
-        } else {
+    for k in 0..4 {
+        if !vector_sound(v, k, d[k]) {
             return false;
         }
     }
@@ -121,6 +101,7 @@ fn vectors_sound(v: Vehicle, d: [Vec2; 4]) -> bool
 }
 
 // 27: any record is tested; its vectors only where the vehicle is sound.
+#[tactic(auto, unfolding(crate::specs::Tests::record_sound))]
 pub fn record_sound(asked: usize, w: Walk) -> bool
     ensures { result ≡ record_sound asked (view w) }
 {
@@ -128,8 +109,7 @@ pub fn record_sound(asked: usize, w: Walk) -> bool
     if !vehicle_sound(v) {
         return false;
     }
-    let d = w.d;
-    (w.station < asked) & vectors_sound(v, d)
+    (w.station < asked) & vectors_sound(v, w.d)
 }
 
 // 25: no station follows this one; no sum, which might overflow, is made.

@@ -3,9 +3,9 @@ ghost use Rattle.std.specs.Prelude.{◌≡◌};
 ghost use Rattle.refusal.specs.Numbers.{as_answer};
 ghost use Rattle.walk.specs.Tests.{units_in_use};
 ghost use Rattle.walk.specs.Units.{hitch_at, fold_kept, none, behind, turn_units};
-ghost use Rattle.walk.specs.Inner.{next_turn, ahead_if, units_turned, TurnReady, HitchReady, FoldReady, UnitsReady};
+ghost use Rattle.walk.specs.Inner.{next_turn, ahead_if, as_turning, TurnReady, HitchReady, FoldReady, UnitsReady};
 
-use crate::{Turns, UnitsTurned};
+use crate::UnitRefusal;
 use job::{Unit, Vehicle};
 use plane::Vec2;
 use refusal::Fault;
@@ -15,8 +15,8 @@ pub fn hitch_at(u: Unit, front: Vec2, d: Vec2) -> Vec2
     requires { HitchReady u front d }
     ensures { result ≡ hitch_at u front d }
 {
-    let l = exact::wide(u.wheelbase);
-    let h = exact::wide_signed(u.hitch);
+    let l = i64::from(u.wheelbase);
+    let h = i64::from(u.hitch);
     let rear = plane::minus(front, d);
     plane::plus(rear, unit::hitch_offset(d, h, l))
 }
@@ -26,9 +26,9 @@ fn fold_kept(a: Unit, ahead: Vec2, u: Unit, d: Vec2) -> bool
     requires { FoldReady a ahead u d }
     ensures { result ≡ fold_kept (behind a ahead) u d }
 {
-    let limit = exact::wide_signed(u.fold);
-    let la = exact::wide(a.wheelbase);
-    let ld = exact::wide(u.wheelbase);
+    let limit = i64::from(u.fold);
+    let la = i64::from(a.wheelbase);
+    let ld = i64::from(u.wheelbase);
     unit::fold_allowed(ahead, d, limit, la, ld)
 }
 
@@ -45,7 +45,7 @@ fn turn_next(
     requires { TurnReady follows a u ahead d old new }
     ensures { as_answer result ≡ next_turn (ahead_if follows a ahead) u d old new }
 {
-    let l = exact::wide(u.wheelbase);
+    let l = i64::from(u.wheelbase);
     let f = plane::minus(new, old);
     if unit::moves_too_far(f, l) {
         return Err(Fault::MoveTooLong);
@@ -60,42 +60,33 @@ fn turn_next(
     Err(Fault::FoldLimit)
 }
 
-// The units in use, turned from the first, whose front point goes from old to new; a refusal hands the old vectors back.
-pub(crate) fn turn_units(v: Vehicle, d: [Vec2; 4], old: Vec2, new: Vec2) -> UnitsTurned
+// The units in use, turned from the first, whose front point goes from old to new; the first that may not turn refuses.
+pub(crate) fn turn_units(
+    v: Vehicle,
+    d: [Vec2; 4],
+    old: Vec2,
+    new: Vec2,
+) -> Result<[Vec2; 4], UnitRefusal>
     requires { UnitsReady v d old new }
-    ensures { result ≡ units_turned d (turn_units 1 none (units_in_use v) d old new) }
+    ensures { as_turning result ≡ turn_units 1 none (units_in_use v) d old new }
 {
-    let count = v.count;
-    let units = v.units;
-    let mut out = d;
+    let mut turned = d;
     let mut from = old;
     let mut to = new;
-    let mut lead = units[0];
+    let mut lead = v.units[0];
     let mut ahead = d[0];
-    let mut i: usize = 0;
-    while i < count {
-        let u = units[i];
-        let e = out[i];
-        let t = turn_next(u, e, from, to, 0 < i, lead, ahead);
-        match t {
-            Err(fault) => {
-                return UnitsTurned {
-                    turns: Turns::Stopped(fault.number(), i + 1),
-                    d,
-                };
-            }
+    for i in 0..v.count {
+        let u = v.units[i];
+        match turn_next(u, d[i], from, to, 0 < i, lead, ahead) {
+            Err(fault) => return Err(UnitRefusal { fault, unit: i + 1 }),
             Ok(x) => {
-                from = hitch_at(u, from, e);
+                from = hitch_at(u, from, d[i]);
                 to = hitch_at(u, to, x);
-                out[i] = x;
+                turned[i] = x;
                 lead = u;
                 ahead = x;
             }
         }
-        i += 1;
     }
-    UnitsTurned {
-        turns: Turns::All,
-        d: out,
-    }
+    Ok(turned)
 }

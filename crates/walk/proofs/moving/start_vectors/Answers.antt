@@ -1,11 +1,8 @@
--- `walk::moving::start_vectors` meets its contract.
-use Prim.Native.Nat.{◌-◌}
-use mathlib.Core.Path.{◌≡◌, refl, sym, ◌∙◌, ap, subst}
+-- `walk::moving::start_vectors` meets its contract: the vectors placed, and those of the rest, are the whole.
+use mathlib.Core.Path.{◌≡◌, sym, ◌∙◌, ap, subst}
 use native.Mathlib.Omega.{arith}
 use borrow.Author.Rules.{rules}
-use lib.ListN.{length, get_or, length-set}
-use mir.Syntax.{w64}
-use mir.Facts.{to_z-of_z}
+use lib.ListN.{length, get_or}
 use Rattle.exact.proofs.Machine.{reread}
 use Rattle.job.specs.Empty.{empty_unit}
 use Rattle.unit.specs.Turn.{placed_by, Placeable}
@@ -14,56 +11,23 @@ use Rattle.walk.specs.Units.{wheelbase_of}
 use Rattle.walk.specs.Rig.{start_vectors}
 use Rattle.walk.proofs.MovingLaws.{placed_next, placed_end}
 use Rattle.walk.proofs.moving.start_vectors.Goals as goal
-use Rattle.walk.proofs.moving.start_vectors.Goals.{After-wide, Start}
-
-four : (s : Start) → length s.args.v.units ≡ 4
-four s = search (rules, unmapped)
-
-pub loop-i-init : goal.loop-i-init
-loop-i-init c = (omega arith, four c.before, refl, refl)
-
-pub offset_bounds-units-i : goal.offset_bounds-units-i
-offset_bounds-units-i c = record { fits = omega (arith, c.requires.most, c.loop-i-test.true) }
-
-pub bounds-units-i : goal.bounds-units-i
-bounds-units-i c = omega (arith, c.requires.most, c.loop-i-test.true)
+use Rattle.walk.proofs.moving.start_vectors.Goals.{After-from}
 
 -- the wheelbase, wide
-base : (c : After-wide) → let s = c.before.before.before.before.before in reread c.wide.result ≡ wheelbase_of (get_or s.args.v.units c.loop-i.i empty_unit)
-base c = to_z-of_z {w = w64} (record { sfits = c.wide.type_inv }) ∙ c.wide.ensures
+base : (c : After-from) → reread c.from.result ≡ wheelbase_of (get_or c.args.v.units c.loop-i.i empty_unit)
+base c = search rules
 
 pub placed-requires : goal.placed-requires
 placed-requires c =
-    let s = c.before.before.before.before.before in
-    subst (Placeable s.args.g) (sym (base c)) (record { wheelbase = (s.requires.units c.loop-i.i c.loop-i-test.true).wheelbase; heading = s.requires.heading })
-
-pub offset_bounds-d-i : goal.offset_bounds-d-i
-offset_bounds-d-i c = record { fits = omega (arith, c.requires.most, c.loop-i-test.true) }
-
-pub bounds-d-i : goal.bounds-d-i
-bounds-d-i c = omega (arith, c.requires.most, c.loop-i-test.true)
-
-pub overflow_add-i : goal.overflow_add-i
-overflow_add-i c = record { fits = omega (arith, c.requires.most, c.loop-i-test.true) }
-
-pub loop-i-smaller : goal.loop-i-smaller
-loop-i-smaller c = omega (arith, c.loop-i-test.true)
+    subst (Placeable c.args.g) (sym (base (goal.at.placed-requires c).After-from)) (record { wheelbase = (c.requires.units c.loop-i.i c.loop-i-test.true).wheelbase; heading = c.requires.heading })
 
 pub loop-i-preserved : goal.loop-i-preserved
 loop-i-preserved c =
-    let s = c.before.before.before.before.before.before in
-    let l = c.loop-i in
-    let taken = c.loop-i-test.true in
-    let e = c.placed.ensures ∙ ap (placed_by s.args.g) (base c.before) in (
-      omega arith,
-      l.invariant.1,
-      simp length-set l.invariant.2,
-      rw e (placed_next s.args.g s.args.v.units s.args.v.count l.i l.d _ (omega (arith, l.invariant.1, s.requires.most)) taken l.invariant.3),
-    )
+    let v = c.args.v in
+    let four : length v.units ≡ 4 = search (rules, unmapped) in
+    let e = c.placed.ensures ∙ ap (placed_by c.args.g) (base (goal.at.loop-i-preserved c).After-from) in
+    rw e (placed_next c.args.g v.units v.count c.loop-i.i c.loop-i.d _ (omega (arith, c.requires.most)) c.loop-i-test.true c.loop-i.invariant)
 
 pub returns : goal.returns
 unfolding start_vectors
-returns c =
-    let s = c.before.before.before in
-    let l = c.loop-i in
-    placed_end s.args.g s.args.v.units s.args.v.count l.i l.d _ c.loop-i-test.false l.invariant.3
+returns c = placed_end c.args.g c.args.v.units c.args.v.count c.loop-i.i c.loop-i.d _ c.loop-i-test.false c.loop-i.invariant

@@ -1,12 +1,10 @@
 -- `walk::tests::vector_sound` meets its contract: place k is that of a unit in use, or of none.
-use Prim.Native.Nat.{◌+◌, ◌≤◌}
+use Prim.Native.Nat.{◌+◌}
 use mathlib.Core.Path.{◌≡◌, sym, ◌∙◌, ap, subst}
 use native.Mathlib.Omega.{arith}
 use borrow.Author.Rules.{rules}
 use lib.ListN.{length, drop, get_or}
 use lib.IntN.{pos}
-use mir.Syntax.{w64}
-use mir.Facts.{to_z-of_z}
 use Rattle.number.proofs.ManyLaws.{next_of, none_of}
 use Rattle.plane.specs.Length.{has_length, Nominal}
 use Rattle.job.specs.Empty.{empty_unit}
@@ -18,52 +16,41 @@ use Rattle.walk.specs.Tests.{vector_sound, units_in_use}
 use Rattle.walk.proofs.VehicleTests.{units_counted, unit_ready_at}
 use Rattle.walk.proofs.VectorTests.{vector_used, vector_unused}
 use Rattle.walk.proofs.tests.vector_sound.Goals as goal
-use Rattle.walk.proofs.tests.vector_sound.Goals.{After-wide, Start, Then-k-v}
-
-module _ (s : Start) where
-  places : length s.args.v.units ≡ 4
-  places = search (rules, unmapped)
-
-  counted : s.args.v.count ≤ 4
-  counted = (units_counted s.args.v s.requires.sound).1
+use Rattle.walk.proofs.tests.vector_sound.Goals.{After-from, Then-k-v}
 
 -- the unit at place k, in use
 module _ (c : Then-k-v) where
-  abbrev s : Start
-  s = c.before.before
-
   abbrev u : VehicleUnit
-  u = get_or s.args.v.units s.args.k empty_unit
+  u = get_or c.args.v.units c.args.k empty_unit
 
-  in_use : vector_sound (drop s.args.k (units_in_use s.args.v)) s.args.d ≡ has_length s.args.d (pos u.wheelbase)
+  places : length c.args.v.units ≡ 4
+  places = search (rules, unmapped)
+
+  in_use : vector_sound (drop c.args.k (units_in_use c.args.v)) c.args.d ≡ has_length c.args.d (pos u.wheelbase)
   in_use =
-      rw (next_of s.args.v.units s.args.v.count s.args.k empty_unit (omega (arith, places s, counted s)) c.if-k-v.true)
-      (vector_used u (drop (s.args.k + 1) (units_in_use s.args.v)) s.args.d)
+      rw (next_of c.args.v.units c.args.v.count c.args.k empty_unit (omega (arith, places, units_counted c.args.v c.requires.sound)) c.if-k-v.true)
+      (vector_used u (drop (c.args.k + 1) (units_in_use c.args.v)) c.args.d)
 
   nominal : Nominal (pos u.wheelbase)
-  nominal = wheelbase_nominal (unit_ready_at s.args.v s.requires.sound (places s) s.args.k empty_unit c.if-k-v.true).wheelbase
+  nominal = wheelbase_nominal (unit_ready_at c.args.v c.requires.sound places c.args.k empty_unit c.if-k-v.true).wheelbase
 
-pub offset_bounds-units-k : goal.offset_bounds-units-k
-offset_bounds-units-k c = let s = c.before.before.before in record { fits = omega (arith, counted s, c.if-k-v.true) }
+pub offset_bounds-v-k : goal.offset_bounds-v-k
+offset_bounds-v-k c = record { fits = omega (arith, units_counted c.args.v c.requires.sound) }
 
-pub bounds-units-k : goal.bounds-units-k
-bounds-units-k c = let s = c.before.before.before in omega (arith, counted s, c.if-k-v.true)
+pub bounds-v-k : goal.bounds-v-k
+bounds-v-k c = omega (arith, units_counted c.args.v c.requires.sound)
 
 -- the wheelbase, made wide
-wheelbase : (c : After-wide) → reread c.wide.result ≡ pos (u c.before.before.before).wheelbase
-wheelbase c = to_z-of_z {w = w64} (record { sfits = c.wide.type_inv }) ∙ c.wide.ensures
+wheelbase : (c : After-from) → reread c.from.result ≡ pos (get_or c.args.v.units c.args.k empty_unit).wheelbase
+wheelbase c = search rules
 
 pub has_length-requires : goal.has_length-requires
-has_length-requires c = subst Nominal (sym (wheelbase c)) (nominal c.before.before.before)
+has_length-requires c = let p = goal.at.has_length-requires c in subst Nominal (sym (wheelbase p.After-from)) (nominal p.Then-k-v)
 
 pub returns-then-k-v : goal.returns-then-k-v
 returns-then-k-v c =
-    let w = c.before in
-    let t = w.before.before.before in
-    c.has_length.ensures ∙ ap (has_length (s t).args.d) (wheelbase w) ∙ sym (in_use t)
+    let p = goal.at.returns-then-k-v c in
+    c.has_length.ensures ∙ ap (has_length c.args.d) (wheelbase p.After-from) ∙ sym (in_use p.Then-k-v)
 
 pub returns : goal.returns
-returns c =
-    let e = c.before in
-    let a = e.args in
-    c.is_zero.ensures ∙ sym (rw (none_of a.v.units a.v.count a.k e.if-k-v.false) (vector_unused a.d))
+returns c = c.is_zero.ensures ∙ sym (rw (none_of c.args.v.units c.args.v.count c.args.k c.if-k-v.false) (vector_unused c.args.d))

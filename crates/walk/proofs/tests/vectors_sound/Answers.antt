@@ -1,40 +1,32 @@
 -- `walk::tests::vectors_sound` meets its contract: what is left to test from place k on decides the whole.
-use Prim.Native.Nat.{◌+◌, ◌-◌}
-use mathlib.Core.Path.{◌≡◌, refl, sym, ◌∙◌}
+use Prim.Native.Nat.{◌+◌}
+use mathlib.Core.Path.{◌≡◌, sym, ◌∙◌}
 use mathlib.Core.Bool.{◌&&◌}
 use native.Mathlib.Omega.{arith}
 use borrow.Author.Rules.{rules}
-use lib.ListN.{length-take}
+use lib.ListN.{length, drop, length-take}
 use Rattle.walk.specs.Tests.{vectors_sound, units_in_use}
 use Rattle.walk.proofs.VectorTests.{vectors_next, vectors_end}
 use Rattle.walk.proofs.VehicleTests.{units_counted}
-use Rattle.walk.proofs.tests.vectors_sound.Invariants.{left}
 use Rattle.walk.proofs.tests.vectors_sound.Goals as goal
 use Rattle.walk.proofs.tests.vectors_sound.Goals.{After-vector_sound}
 
 -- one turn: the vector at k, and those after it
-turn : (c : After-vector_sound) →
-    let l = c.loop-k in
-    let a = c.args in
-    (c.vector_sound.result && left a.v a.d (l.k + 1)) ≡ vectors_sound (units_in_use a.v) a.d
+turn : (c : After-vector_sound) → let k = c.loop-k.k + 1 in
+    (c.vector_sound.result && vectors_sound (drop k (units_in_use c.args.v)) (drop k c.args.d)) ≡ vectors_sound (units_in_use c.args.v) c.args.d
 turn c =
-    let i = c.before.before in
-    let l = i.loop-k in
-    let a = i.args in
-    rw c.vector_sound.ensures (sym (vectors_next (units_in_use a.v) a.d l.k (omega (arith, l.invariant.1, i.loop-k-test.true))) ∙ l.invariant.2)
-
-pub loop-k-init : goal.loop-k-init
-loop-k-init c = (omega arith, search rules, refl)
+    let four : length c.args.d ≡ 4 = search rules in
+    rw c.vector_sound.ensures (sym (vectors_next (units_in_use c.args.v) c.args.d c.loop-k.k (omega (arith, c.loop-k-test.true))) ∙ c.loop-k.invariant)
 
 pub loop-k-preserved : goal.loop-k-preserved
-loop-k-preserved c = (omega arith, c.loop-k.invariant.1, rw c.if-vector_sound.true at (turn c.before))
+loop-k-preserved c = rw c.if-not-vector_sound.false at (turn (goal.at.loop-k-preserved c).After-vector_sound)
 
-pub returns-else-vector_sound : goal.returns-else-vector_sound
-returns-else-vector_sound c = rw c.if-vector_sound.false at (turn c.before)
+pub returns-then-not-vector_sound : goal.returns-then-not-vector_sound
+returns-then-not-vector_sound c = rw c.if-not-vector_sound.true at (turn (goal.at.returns-then-not-vector_sound c).After-vector_sound)
 
 pub returns : goal.returns
 returns c =
-    let l = c.loop-k in
     let a = c.args in
-    let u = units_counted a.v c.requires.sound in
-    sym (vectors_end (units_in_use a.v) a.d l.k (omega (arith, u.1, length-take a.v.count a.v.units, c.loop-k-test.false)) (omega (arith, l.invariant.1, c.loop-k-test.false))) ∙ l.invariant.2
+    let most = (units_counted a.v c.requires.sound).1 in
+    let four : length a.d ≡ 4 = search rules in
+    sym (vectors_end (units_in_use a.v) a.d c.loop-k.k (omega (arith, length-take a.v.count a.v.units)) (omega arith)) ∙ c.loop-k.invariant
