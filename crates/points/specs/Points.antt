@@ -1,5 +1,5 @@
 -- The points of a rig (01, "Stations and the widest place"), as the table numbers them.
-use Rattle.std.specs.Prelude.{ℕ, List, map, get_or, take, replicate, ℤ, pos, neg_ℤ}
+use Rattle.std.specs.Prelude.{List, map, get_or, take, replicate, ℤ, pos, neg_ℤ}
 use Rattle.number.specs.Read.{pick}
 use Rattle.plane.specs.declared.Vec2.{Vec2}
 use Rattle.plane.specs.Vector.{plus, times, right_normal, nearest_v}

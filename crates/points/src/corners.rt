@@ -14,58 +14,49 @@ pub struct Corner {
 }
 
 // The body of unit i: a short job's has no overhangs, and the rear half width.
+#[tactic(auto, using(crate::proofs::CornerLaws::long_body), unfolding(crate::specs::Corners::body_of))]
 fn body_of(v: Vehicle, i: usize) -> Body
     requires { UnitInUse v i }
     ensures { result ≡ body_of v i }
 {
-    let form = v.form;
-    match form {
+    match v.form {
         Form::Short => Body {
             front_overhang: 0,
             rear_overhang: 0,
             half_width: v.rear_half_width,
         },
-        Form::Long => {
-            let units = v.units;
-            let unit = units[i];
-            unit.body
-        }
+        Form::Long => v.units[i].body,
     }
 }
 
 // A short job's first unit has its old overhang and half width in front.
+#[tactic(auto, unfolding(crate::specs::Corners::front_corner))]
 fn front_corner(v: Vehicle, i: usize) -> Corner
     requires { UnitInUse v i }
     ensures { result ≡ front_corner v i }
 {
-    let form = v.form;
+    if v.form == Form::Short && i == 0 {
+        return Corner {
+            along: i64::from(v.overhang),
+            width: i64::from(v.front_half_width),
+        };
+    }
     let body = body_of(v, i);
-    let own = Corner {
-        along: exact::wide(body.front_overhang),
-        width: exact::wide(body.half_width),
-    };
-    match form {
-        Form::Short => {
-            if i == 0 {
-                return Corner {
-                    along: exact::wide(v.overhang),
-                    width: exact::wide(v.front_half_width),
-                };
-            }
-            own
-        }
-        Form::Long => own,
+    Corner {
+        along: i64::from(body.front_overhang),
+        width: i64::from(body.half_width),
     }
 }
 
+#[tactic(auto, unfolding(crate::specs::Corners::rear_corner))]
 fn rear_corner(v: Vehicle, i: usize) -> Corner
     requires { UnitInUse v i }
     ensures { result ≡ rear_corner v i }
 {
     let body = body_of(v, i);
     Corner {
-        along: -exact::wide(body.rear_overhang),
-        width: exact::wide(body.half_width),
+        along: -i64::from(body.rear_overhang),
+        width: i64::from(body.half_width),
     }
 }
 
@@ -75,8 +66,7 @@ pub(crate) fn unit_of(v: Vehicle, base: Base) -> usize
     ensures { result ≡ unit_of v base }
 {
     match base {
-        Base::Front(i) => i,
-        Base::Rear(i) => i,
+        Base::Front(i) | Base::Rear(i) => i,
         Base::LastRear => v.count - 1,
     }
 }
@@ -84,14 +74,11 @@ pub(crate) fn unit_of(v: Vehicle, base: Base) -> usize
 pub(crate) fn is_front(base: Base) -> bool
     ensures { result ≡ is_front base }
 {
-    match base {
-        Base::Front(_) => true,
-        Base::Rear(_) => false,
-        Base::LastRear => false,
-    }
+    matches!(base, Base::Front(_))
 }
 
 // The corner of the body at a base.
+#[tactic(auto, unfolding(crate::specs::Corners::corner_of))]
 pub(crate) fn corner_of(v: Vehicle, base: Base) -> Corner
     requires { BaseInUse v base }
     ensures { result ≡ corner_of v base }

@@ -7,7 +7,7 @@ ghost use Rattle.std.specs.Prelude.{◌≡◌};
 ghost use Rattle.std.proofs.lemmas.List.Edits.{sets};
 ghost use Rattle.exact.specs.Size.{Within};
 ghost use Rattle.walk.specs.Inner.{HitchReady};
-ghost use Rattle.points.specs.Ends.{place_of, no_places, places_of, front_end, rear_end};
+ghost use Rattle.points.specs.Ends.{place_of, no_places, places_of};
 ghost use Rattle.points.specs.Points.{point_at, end_of, along_of, half_width, side_of, offset_from, no_points, rig_points};
 ghost use Rattle.points.specs.Requires.{RigAt, BaseInUse, OffsetSized, Measured};
 ghost use Rattle.points.specs.Worked.{WorkedPoints};
@@ -51,7 +51,7 @@ fn place_of(u: Unit, d: Vec2, front: Vec2) -> UnitPlace
         front,
         rear: plane::minus(front, d),
         d,
-        wheelbase: exact::wide(u.wheelbase),
+        wheelbase: i64::from(u.wheelbase),
     }
 }
 
@@ -60,45 +60,15 @@ fn unit_places(v: Vehicle, d: [Vec2; 4], front: Vec2) -> [UnitPlace; 4]
     requires { RigAt v d front }
     ensures { result ≡ sets no_places 0 (places_of v d front) }
 {
-    let units = v.units;
     let last = v.count - 1;
     let mut places = [NO_PLACE; 4];
     let mut here = front;
-    let mut i = 0;
-    while i < last {
-        let unit = units[i];
-        places[i] = place_of(unit, d[i], here);
-        here = walk::units::hitch_at(unit, here, d[i]);
-        i += 1;
+    for i in 0..last {
+        places[i] = place_of(v.units[i], d[i], here);
+        here = walk::units::hitch_at(v.units[i], here, d[i]);
     }
-    places[last] = place_of(units[last], d[last], here);
+    places[last] = place_of(v.units[last], d[last], here);
     places
-}
-
-// The front point of a unit as an end.
-fn front_end(p: UnitPlace) -> End
-    ensures { result ≡ front_end p }
-{
-    let place = p.front;
-    let d = p.d;
-    End {
-        place,
-        d,
-        wheelbase: p.wheelbase,
-    }
-}
-
-// The rear axle of a unit as an end.
-fn rear_end(p: UnitPlace) -> End
-    ensures { result ≡ rear_end p }
-{
-    let place = p.rear;
-    let d = p.d;
-    End {
-        place,
-        d,
-        wheelbase: p.wheelbase,
-    }
 }
 
 // The end that a base names.
@@ -106,11 +76,17 @@ fn end_of(v: Vehicle, places: [UnitPlace; 4], base: Base) -> End
     requires { BaseInUse v base }
     ensures { result ≡ end_of v places base }
 {
-    let place = places[corners::unit_of(v, base)];
-    if corners::is_front(base) {
-        return front_end(place);
+    let unit = places[corners::unit_of(v, base)];
+    let place = if corners::is_front(base) {
+        unit.front
+    } else {
+        unit.rear
+    };
+    End {
+        place,
+        d: unit.d,
+        wheelbase: unit.wheelbase,
     }
-    rear_end(place)
 }
 
 fn along_of(c: Corner, along: Along) -> i64
@@ -127,8 +103,8 @@ fn half_width(v: Vehicle, c: Corner, width: Width) -> i64
 {
     match width {
         Width::Corner => c.width,
-        Width::FrontHalf => exact::wide(v.front_half_width),
-        Width::RearHalf => exact::wide(v.rear_half_width),
+        Width::FrontHalf => i64::from(v.front_half_width),
+        Width::RearHalf => i64::from(v.rear_half_width),
     }
 }
 
@@ -149,11 +125,9 @@ fn offset_from(e: End, along: i64, side: i64) -> Vec2
     ensures { result ≡ offset_from e along side }
 {
     let d = e.d;
-    let dx = d.x;
-    let dy = d.y;
     let sum = Vec2 {
-        x: dx * along + dy * side,
-        y: dy * along - dx * side,
+        x: d.x * along + d.y * side,
+        y: d.y * along - d.x * side,
     };
     plane::nearest_vector(sum, e.wheelbase)
 }
@@ -163,16 +137,11 @@ fn point(v: Vehicle, places: [UnitPlace; 4], row: Row) -> Vec2
     requires { Measured v places row }
     ensures { result ≡ point_at v places row }
 {
-    let base = row.base;
-    let along = row.along;
-    let side = row.side;
-    let width = row.width;
-    let e = end_of(v, places, base);
-    let c = corners::corner_of(v, base);
-    let ahead = along_of(c, along);
-    let beside = side_of(side, half_width(v, c, width));
-    let offset = offset_from(e, ahead, beside);
-    plane::plus(e.place, offset)
+    let e = end_of(v, places, row.base);
+    let c = corners::corner_of(v, row.base);
+    let ahead = along_of(c, row.along);
+    let beside = side_of(row.side, half_width(v, c, row.width));
+    plane::plus(e.place, offset_from(e, ahead, beside))
 }
 
 // The points of a rig whose first front point is `front`; the places past them are zero.
@@ -181,13 +150,9 @@ pub fn points(v: Vehicle, d: [Vec2; 4], front: Vec2) -> [Vec2; marks::POINT_CAPA
     ensures { result ≡ sets no_points 0 (rig_points v d front) }
 {
     let places = unit_places(v, d, front);
-    let count = marks::point_count(v);
     let mut all = [Vec2 { x: 0, y: 0 }; marks::POINT_CAPACITY];
-    let mut k = 0;
-    while k < count {
-        let row = point_table::row_of(k);
-        all[k] = point(v, places, row);
-        k += 1;
+    for k in 0..marks::point_count(v) {
+        all[k] = point(v, places, point_table::row_of(k));
     }
     all
 }

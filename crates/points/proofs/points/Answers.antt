@@ -1,10 +1,9 @@
--- `points::points` meets its contract. The loop's invariant: the points left, over those filled in, are all of them. Assumes nothing.
-use Prim.Native.Nat.{ℕ, ◌+◌, ◌-◌, ◌≤◌, ◌<◌}
-use mathlib.Core.Path.{refl, sym, ◌∙◌, ap, ap₂, subst₂}
+-- `points::points` meets its contract: the points left, over those filled in, are all of them.
+use Prim.Native.Nat.{◌+◌, ◌<◌}
+use mathlib.Core.Path.{sym, ◌∙◌, ap, subst₂}
 use mathlib.Core.List.{List, map}
 use native.Mathlib.Omega.{arith}
-use borrow.Author.Rules.{rules}
-use lib.ListN.{length, take, drop, set}
+use lib.ListN.{take, drop, set}
 use lib.Seq.{sets}
 use Rattle.plane.specs.declared.Vec2.{Vec2}
 use Rattle.marks.specs.Count.{point_count, point_capacity}
@@ -22,52 +21,40 @@ use Rattle.points.proofs.points.Goals.{In-loop-k}
 -- a point of the loop is one of the vehicle's, so it has its row and its place
 module _ (c : In-loop-k) where
   own : c.loop-k.k < point_count c.args.v
-  own = rw c.point_count-count.ensures at c.loop-k-test.true
+  own = rw c.point_count-k-end.ensures at c.loop-k-test.true
 
   there : c.loop-k.k < point_capacity
-  there = let s = c.before.before.before.before in omega (arith, own, count_fits s.args.v s.requires.rig.most)
+  there = omega (arith, own, count_fits c.args.v c.requires.rig.most)
 
-pub point_count-count-requires : goal.point_count-count-requires
-point_count-count-requires c = record { most = c.requires.rig.most }
-
-pub loop-k-init : goal.loop-k-init
-loop-k-init c = (search rules, refl)
-
-pub row_of-row-requires : goal.row_of-row-requires
-row_of-row-requires c = record { place = there c }
+pub row_of-requires : goal.row_of-requires
+row_of-requires c = record { place = there (goal.at.row_of-requires c).In-loop-k }
 
 pub point-requires : goal.point-requires
 point-requires c =
-    let s = c.before.before.before.before.before in
-    let k = c.loop-k.k in
-    subst₂ (Measured s.args.v) (sym c.unit_places-places.ensures) (sym c.row_of-row.ensures)
-    (record { rig = array_sized s.requires; body = s.requires.body; base = row_in_use s.args.v s.requires.rig.least s.requires.rig.most k (own c.before) })
+    let r = c.requires in
+    subst₂ (Measured c.args.v) (sym c.unit_places-places.ensures) (sym c.row_of.ensures)
+    (record { rig = array_sized r; body = r.body; base = row_in_use c.args.v r.rig.least r.rig.most c.loop-k.k (own (goal.at.point-requires c).In-loop-k) })
 
 pub offset_bounds-all-k : goal.offset_bounds-all-k
-offset_bounds-all-k c = record { fits = omega (arith, there c.before.before) }
+offset_bounds-all-k c = record { fits = omega (arith, there (goal.at.offset_bounds-all-k c).In-loop-k) }
 
 pub bounds-all-k : goal.bounds-all-k
-bounds-all-k c = there c.before.before
-
-pub overflow_add-k : goal.overflow_add-k
-overflow_add-k c = record { fits = omega (arith, there c.before.before) }
+bounds-all-k c = there (goal.at.bounds-all-k c).In-loop-k
 
 pub loop-k-preserved : goal.loop-k-preserved
 loop-k-preserved c =
-    let s = c.before.before.before.before.before.before in
     let l = c.loop-k in
-    let count = c.point_count-count in
-    let placed = point_at s.args.v c.unit_places-places.result in
-    let enough : count.result ≤ length point_rows = rw count.ensures (rows_enough s.args.v s.requires.rig.most) in
-    let left = map placed (drop (l.k + 1) (take count.result point_rows)) in
-    (search rules, ap (λ (p : Vec2). sets (set l.all l.k p) (l.k + 1) left) (c.point.ensures ∙ ap placed c.row_of-row.ensures) ∙ filled_more placed point_rows count.result l.all l.k (row_at 0) enough c.loop-k-test.true ∙ l.invariant.1)
+    let n = point_count c.args.v in
+    let placed = point_at c.args.v c.unit_places-places.result in
+    let left = map placed (drop (l.k + 1) (take n point_rows)) in
+    ap (λ (p : Vec2). sets (set l.all l.k p) (l.k + 1) left) (c.point.ensures ∙ ap placed c.row_of.ensures)
+    ∙ filled_more placed point_rows n l.all l.k (row_at 0) (rows_enough c.args.v c.requires.rig.most) (own (goal.at.loop-k-preserved c).In-loop-k) ∙ l.invariant
 
 pub returns : goal.returns
 returns c =
-    let s = c.before.before.before.before in
     let l = c.loop-k in
-    let count = c.point_count-count in
-    let placed = point_at s.args.v c.unit_places-places.result in
-    sym (filled_all placed point_rows count.result l.all l.k c.loop-k-test.false) ∙ l.invariant.1
-    ∙ ap₂ (λ (ps : List UnitPlace) (n : ℕ). sets no_points 0 (map (point_at s.args.v ps) (take n point_rows))) c.unit_places-places.ensures count.ensures
-    ∙ ap (sets no_points 0) (array_points s.requires)
+    let n = point_count c.args.v in
+    let placed = point_at c.args.v c.unit_places-places.result in
+    sym (filled_all placed point_rows n l.all l.k (rw c.point_count-k-end.ensures at c.loop-k-test.false)) ∙ l.invariant
+    ∙ ap (λ (ps : List UnitPlace). sets no_points 0 (map (point_at c.args.v ps) (take n point_rows))) c.unit_places-places.ensures
+    ∙ ap (sets no_points 0) (array_points c.requires)
