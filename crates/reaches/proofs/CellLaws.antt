@@ -10,7 +10,7 @@ use lib.ListN.{length, length-set}
 use lib.Seq.{get_or-set_same, get_or-set_other, set-get_or}
 use Rattle.reaches.specs.declared.Cell.{Cell}
 use Rattle.reaches.specs.Cells.{Reaches, cell_at, store_cell, at_stations}
-use Rattle.reaches.specs.Inner.{Room}
+use Rattle.reaches.specs.Inner.{Room, CellLent}
 
 -- a cell stored where it stands
 pub store_same : (i : ℕ) (r : Reaches) → store_cell i (cell_at i r) r ≡ r
@@ -48,6 +48,9 @@ stations_lengths f (suc n) r =
 
 pub same_room : {n : ℕ} {a b : Reaches} → SameLengths a b → Room n b → Room n a
 same_room s h = record { left = rw s.left h.left; right = rw s.right h.right; marks = rw s.marks h.marks }
+
+pub lent_at : {n i : ℕ} {r : Reaches} → i < n → Room n r → CellLent i r
+lent_at h r = record { left = omega (arith, r.left); right = omega (arith, r.right); marks = omega (arith, r.marks) }
 
 pub lengths_of_lem : (f : ℕ → Cell → Cell) (n : ℕ) (r : Reaches) {s : Reaches} → s ≡ at_stations f n r → SameLengths s r
 lengths_of_lem f n r e = subst (λ (s : Reaches). SameLengths s r) (sym e) (stations_lengths f n r)

@@ -4,12 +4,13 @@ use mathlib.Core.Path.{◌≡◌, refl, sym, ◌∙◌, ap}
 use mathlib.Core.Bool.{Bool, true, false, ◌||◌}
 use mathlib.Core.List.{List, [], ◌∷◌}
 use native.Mathlib.Nat.{add-zero, le_of_suc-le-suc, not-suc-le-zero}
+use native.Mathlib.Numerals.{add-one}
 use native.Mathlib.Omega.{arith}
-use lib.ListN.{length, take, drop, get_or}
+use lib.ListN.{length, drop, get_or, drop_of_length-le}
+use lib.Seq.{drop-cons}
 use lib.IntN.{ℤ, pos}
 use lib.Signed.{le_z, lt_z}
 use Rattle.number.specs.Read.{pick}
-use Rattle.number.proofs.ManyLaws.{next_of, none_of as none_left}
 use Rattle.plane.specs.declared.Vec2.{Vec2}
 use Rattle.marks.specs.Marks.{has_bit, with_bit, bits_from}
 use Rattle.marks.proofs.Bits.{own_bit, other_bit, bits_commute, above_bits}
@@ -99,25 +100,28 @@ step_above n p s [] news c h = refl
 step_above n p s (old ∷ olds) [] c h = refl
 step_above n p s (old ∷ olds) (new ∷ news) c h = step_above n (p + 1) s olds news (crossed_by p s old new c) (omega arith) ∙ crossed_above n p s old new c (omega arith)
 
--- of the first n points those from number p on: the next of them, and none left
-module _ (n p : ℕ) (s : Station) (olds news : List Vec2) where
-  pub crossed_next : (c : Cell) → n ≤ length olds → n ≤ length news → p < n
-      → crossed_from p s (drop p (take n olds)) (drop p (take n news)) c ≡ crossed_from (p + 1) s (drop (p + 1) (take n olds)) (drop (p + 1) (take n news)) (crossed_by p s (get_or olds p zero_vector) (get_or news p zero_vector) c)
+-- the points from number p on: the next of them, and none left
+next_point : (points : List Vec2) (p : ℕ) → p < length points → drop p points ≡ get_or points p zero_vector ∷ drop (p + 1) points
+next_point points p h = rw (drop-cons points p zero_vector h, add-one)
+
+module _ (p : ℕ) (s : Station) (olds news : List Vec2) where
+  pub crossed_next : (c : Cell) → p < length olds → p < length news
+      → crossed_from p s (drop p olds) (drop p news) c ≡ crossed_from (p + 1) s (drop (p + 1) olds) (drop (p + 1) news) (crossed_by p s (get_or olds p zero_vector) (get_or news p zero_vector) c)
   unfolding crossed_from
-  crossed_next c h k l = rw (next_of olds n p zero_vector h l, next_of news n p zero_vector k l)
+  crossed_next c h k = rw (next_point olds p h, next_point news p k)
 
-  pub crossed_end : (c : Cell) → n ≤ p → crossed_from p s (drop p (take n olds)) (drop p (take n news)) c ≡ c
+  pub crossed_end : (c : Cell) → length olds ≤ p → crossed_from p s (drop p olds) (drop p news) c ≡ c
   unfolding crossed_from
-  crossed_end c h = rw (none_left olds n p h)
+  crossed_end c h = rw (drop_of_length-le olds {i = p} h)
 
-  pub some_next : n ≤ length olds → n ≤ length news → p < n
-      → some_crosses s (drop p (take n olds)) (drop p (take n news)) ≡ (crosses s (get_or olds p zero_vector) (get_or news p zero_vector) || some_crosses s (drop (p + 1) (take n olds)) (drop (p + 1) (take n news)))
+  pub some_next : p < length olds → p < length news
+      → some_crosses s (drop p olds) (drop p news) ≡ (crosses s (get_or olds p zero_vector) (get_or news p zero_vector) || some_crosses s (drop (p + 1) olds) (drop (p + 1) news))
   unfolding some_crosses
-  some_next h k l = rw (next_of olds n p zero_vector h l, next_of news n p zero_vector k l)
+  some_next h k = rw (next_point olds p h, next_point news p k)
 
-  pub some_end : n ≤ p → some_crosses s (drop p (take n olds)) (drop p (take n news)) ≡ false
+  pub some_end : length olds ≤ p → some_crosses s (drop p olds) (drop p news) ≡ false
   unfolding some_crosses
-  some_end h = rw (none_left olds n p h)
+  some_end h = rw (drop_of_length-le olds {i = p} h)
 
 -- which bits a step sets: those of the points that cross
 module _ (p : ℕ) (s : Station) (old new : Vec2) (c : Cell) where

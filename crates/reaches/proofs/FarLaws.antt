@@ -1,31 +1,31 @@
 -- No point of the rig crosses a station that lies farther off than the rig spreads.
-use Prim.Native.Nat.{ℕ, zero, suc, zero-le, ◌+◌, ◌<◌}
-use mathlib.Core.Path.{◌≡◌, refl, sym, ◌∙◌, ap, subst}
+use Prim.Native.Nat.{ℕ, suc, zero-le, ◌+◌, ◌<◌}
+use mathlib.Core.Path.{◌≡◌, refl, subst}
 use mathlib.Core.Bool.{Bool, true, false, not, ◌&&◌, ◌||◌}
 use mathlib.Core.List.{List, [], ◌∷◌}
 use mathlib.Core.Logic.{◌⊎◌, inl, inr, ⊎_elim}
-use native.Mathlib.Nat.{eq-or-lt_of_le, le_of_suc-le-suc}
-use native.Mathlib.Numerals.{add-one}
 use native.Mathlib.Omega.{arith}
+use borrow.Author.Count.{below_more}
 use borrow.Author.Tests.{le-ltb}
 use lib.Dec.{lit≤}
-use lib.ListN.{take, get_or}
+use lib.ListN.{length, get_or}
 use lib.IntN.{ℤ, pos, negsuc, nat_abs, neg_ℤ, ◌+ℤ◌, ◌-ℤ◌, ◌*ℤ◌}
-use lib.Signed.{le_z, lt_z, ◌≤ℤ◌}
+use lib.Signed.{le_z, lt_z, ◌≤ℤ◌, ≤ℤ_refl}
 use Rattle.exact.specs.Size.{Within}
 use Rattle.exact.proofs.Polynomial.{Expr, ◌⊕◌, ◌⊖◌, ◌⊗◌, neg, lit, var, ring}
-use Rattle.exact.proofs.Order.{pos-≤, by_contradiction, le_z_true, le_z_false, lt_z_true-≤, ≤ℤ-trans}
+use Rattle.exact.proofs.Order.{pos-≤, le_z_true, le_z_false, ≤ℤ-trans}
 use Rattle.exact.proofs.Sizes.{≤-size, ≥-size, within, within_add, within_sub}
-use Rattle.exact.proofs.Certificate.{NonNeg, ◌⊞◌, ◌⊠◌, ◌·◌, num, hyp, le, le_scaled, never}
+use Rattle.exact.proofs.Certificate.{NonNeg, ◌⊞◌, ◌⊠◌, ◌·◌, hyp, le, le_scaled, never}
 use Rattle.plane.specs.declared.Vec2.{Vec2}
 use Rattle.plane.specs.Length.{heading_length}
 use Rattle.plane.proofs.Lengths.{coordinates}
 use Rattle.path.specs.declared.Station.{Station}
 use Rattle.path.specs.Laying.{SoundStation}
 use Rattle.walk.specs.Rig.{zero_vector}
+use Rattle.reaches.specs.declared.far.Spread.{Spread}
 use Rattle.reaches.specs.Crossing.{ahead_of, crosses, some_crosses, greater}
 use Rattle.reaches.specs.Inner.{SizedPoint}
-use Rattle.reaches.specs.Far.{apart, far_off, Spread}
+use Rattle.reaches.specs.Far.{apart, far_off, misses, Farthest, SpreadOf}
 use Rattle.reaches.proofs.LeastGreatest.{sorted, greater_most}
 
 -- |x·g| is at most |x|·N where g is at most N in size
@@ -138,15 +138,14 @@ module _ (s : Station) (k : SoundStation s) (a : Vec2) (r : ℤ) (far : far_off 
       (either t u far)
 
 -- nor by any of several
-none_of : (s : Station) (n : ℕ) (olds news : List Vec2) → ((p : ℕ) → p < n → crosses s (get_or olds p zero_vector) (get_or news p zero_vector) ≡ false) → some_crosses s (take n olds) (take n news) ≡ false
+none_of : (s : Station) (olds news : List Vec2) → ((p : ℕ) → p < length olds → crosses s (get_or olds p zero_vector) (get_or news p zero_vector) ≡ false) → some_crosses s olds news ≡ false
 unfolding some_crosses
-none_of s zero olds news h = refl
-none_of s (suc n) [] news h = refl
-none_of s (suc n) (old ∷ olds) [] h = refl
-none_of s (suc n) (old ∷ olds) (new ∷ news) h = rw (h 0 (omega arith)) (none_of s n olds news (λ p l. h (suc p) (omega arith)))
+none_of s [] news h = refl
+none_of s (old ∷ olds) [] h = refl
+none_of s (old ∷ olds) (new ∷ news) h = rw (h 0 (omega arith)) (none_of s olds news (λ p l. h (suc p) (omega arith)))
 
-pub far_none : (s : Station) → SoundStation s → (from : Vec2) (n : ℕ) (olds news : List Vec2) (r : ℤ) → Spread from n olds news r → far_off s from r ≡ true → some_crosses s (take n olds) (take n news) ≡ false
-far_none s k from n olds news r w far = none_of s n olds news (λ p l. far_move s k from r far (get_or olds p zero_vector) (get_or news p zero_vector) (w.old p l) (w.new p l))
+pub missed : (s : Station) → SoundStation s → (w : Spread) (olds news : List Vec2) → SpreadOf w olds news → misses w s ≡ true → some_crosses s olds news ≡ false
+missed s k w olds news u far = none_of s olds news (λ p l. far_move s k w.from w.near far (get_or olds p zero_vector) (get_or news p zero_vector) (u.old.each p l) (u.new.each p l))
 
 pub apart_sized : (a b : Vec2) → SizedPoint a → SizedPoint b → Within 640000000 (apart a b)
 apart_sized a b p q =
@@ -157,26 +156,23 @@ apart_sized a b p q =
 pub greater_sized : {b : ℕ} (x y : ℤ) → Within b x → Within b y → Within b (greater x y)
 greater_sized x y p q = within (≤ℤ-trans (≥-size p) (sorted x y).most_first) (greater_most x y _ (≤-size p) (≤-size q))
 
-module _ (from : Vec2) (olds news : List Vec2) where
-  -- the spread of the first n points, one after the other
-  pub upto_none : Spread from 0 olds news (pos 0)
-  upto_none = record { old = λ p h. absurd (omega arith); new = λ p h. absurd (omega arith); size = record { size = omega arith } }
+-- a bound on the first n, and on the next, is one on n + 1
+pub under : (P : ℕ → ℤ) (n : ℕ) (r r' : ℤ) → ((p : ℕ) → p < n → P p ≤ℤ r) → r ≤ℤ r' → P n ≤ℤ r' → (p : ℕ) → p < n + 1 → P p ≤ℤ r'
+under P n r r' h k l = below_more (λ p. P p ≤ℤ r') n (λ p j. ≤ℤ-trans (h p j) k) l
 
-  -- a bound on the first n, and on the next, is one on n + 1
-  pub under : (P : ℕ → ℤ) (n : ℕ) (r r' : ℤ) → ((p : ℕ) → p < n → P p ≤ℤ r) → r ≤ℤ r' → P n ≤ℤ r' → (p : ℕ) → p < n + 1 → P p ≤ℤ r'
-  under P n r r' h k l p m =
-      ⊎_elim (λ (e : p ≡ n). subst (λ (q : ℕ). P q ≤ℤ r') (sym e) l) (λ (j : p < n). ≤ℤ-trans (h p j) k) (eq-or-lt_of_le (le_of_suc-le-suc (rw add-one at m)))
+-- the farthest of no points, and of one more
+pub farthest_none : (from : Vec2) (low : ℤ) (points : List Vec2) → Within 640000000 low → Farthest from low points 0 low
+farthest_none from low points w = record { least = ≤ℤ_refl low; near = record { each = λ p h. absurd (omega arith) }; size = w }
 
-  pub upto_next : (n : ℕ) (r a b : ℤ) → Spread from n olds news r → a ≡ apart from (get_or olds n zero_vector) → b ≡ apart from (get_or news n zero_vector)
-      → Within 640000000 a → Within 640000000 b → Spread from (n + 1) olds news (greater r (greater a b))
-  upto_next n r a b u p q x y =
-      let o = sorted r (greater a b) in
-      let i = sorted a b in
-      record {
-        old = under (λ k. apart from (get_or olds k zero_vector)) n r _ u.old o.most_first (subst (λ (z : ℤ). z ≤ℤ greater r (greater a b)) p (≤ℤ-trans i.most_first o.most_second));
-        new = under (λ k. apart from (get_or news k zero_vector)) n r _ u.new o.most_first (subst (λ (z : ℤ). z ≤ℤ greater r (greater a b)) q (≤ℤ-trans i.most_second o.most_second));
-        size = greater_sized r (greater a b) u.size (greater_sized a b x y);
-      }
+pub farthest_more : (from : Vec2) (low : ℤ) (points : List Vec2) (n : ℕ) (r a : ℤ) → Farthest from low points n r → a ≡ apart from (get_or points n zero_vector) → Within 640000000 a
+    → Farthest from low points (n + 1) (greater r a)
+farthest_more from low points n r a f e w =
+    let o = sorted r a in
+    record {
+      least = ≤ℤ-trans f.least o.most_first;
+      near = record { each = under (λ k. apart from (get_or points k zero_vector)) n r _ f.near.each o.most_first (subst (λ (z : ℤ). z ≤ℤ greater r a) e o.most_second) };
+      size = greater_sized r a f.size w;
+    }
 
 -- a place is as near to itself as to any other
 none_apart : (x : ℤ) → x -ℤ x ≡ pos 0

@@ -1,10 +1,13 @@
 -- The smaller and the greater of two numbers, in one law; and numbers that enter a least or a greatest may do so in any order.
-use mathlib.Core.Path.{◌≡◌, refl}
+use mathlib.Core.Path.{◌≡◌, refl, ◌∙◌, ap₂}
 use mathlib.Core.Bool.{Bool, true, false}
 use mathlib.Core.List.{[], ◌∷◌}
 use mathlib.Core.Logic.{◌⊎◌, inl, inr}
+use native.Mathlib.Omega.{arith}
 use lib.IntN.{ℤ}
 use lib.Signed.{◌≤ℤ◌, le_z, ≤ℤ_refl}
+use Rattle.std.specs.Int.{int_min, int_max}
+use Rattle.std.proofs.lemmas.Int.{ints, clamps}
 use Rattle.exact.proofs.Polynomial.{◌⊕◌, lit, var}
 use Rattle.exact.proofs.Order.{le_z_true, le_z_false, ≤ℤ-trans, ≤ℤ-antisym}
 use Rattle.exact.proofs.Certificate.{◌⊞◌, num, hyp, le}
@@ -59,3 +62,25 @@ pub greater_any_order : (l a b : ℤ) → greater (greater l a) b ≡ greater (g
 greater_any_order =
     any_order (λ a b. b ≤ℤ a) greater (λ a b c h k. ≤ℤ-trans k h) (λ a b h k. ≤ℤ-antisym k h) (λ a b. (sorted a b).most_first) (λ a b. (sorted a b).most_second)
     (λ a b c p q. greater_most a b c p q)
+
+-- the library's lesser and greater of two
+pub least_is : (a b : ℤ) → int_min a b ≡ smaller a b
+least_is a b = by (le_z a b) refl
+  where
+    by : (t : Bool) → le_z a b ≡ t → int_min a b ≡ pick t a b
+    by true e = let h : a ≤ℤ b = le_z_true e in omega (arith, ints, clamps)
+    by false e = let h : b ≤ℤ a = not-≤ a b e in omega (arith, ints, clamps)
+
+pub most_is : (a b : ℤ) → int_max a b ≡ greater a b
+most_is a b = by (le_z a b) refl
+  where
+    by : (t : Bool) → le_z a b ≡ t → int_max a b ≡ pick t b a
+    by true e = let h : a ≤ℤ b = le_z_true e in omega (arith, ints, clamps)
+    by false e = let h : b ≤ℤ a = not-≤ a b e in omega (arith, ints, clamps)
+
+-- the same of numbers that are read again
+pub lesser_of : {r a b x y : ℤ} → x ≡ a → y ≡ b → r ≡ int_min x y → r ≡ smaller a b
+lesser_of {r} {a} {b} {x} {y} p q e = e ∙ least_is x y ∙ ap₂ smaller p q
+
+pub greater_of : {r a b x y : ℤ} → x ≡ a → y ≡ b → r ≡ int_max x y → r ≡ greater a b
+greater_of {r} {a} {b} {x} {y} p q e = e ∙ most_is x y ∙ ap₂ greater p q

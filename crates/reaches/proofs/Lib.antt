@@ -7,4 +7,4 @@ pub mod Tied
 pub mod Witnesses
 pub mod FarLaws
 pub mod PairLaws
-pub mod CoordinateLaws
+pub mod Loans

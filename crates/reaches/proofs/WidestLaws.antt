@@ -12,25 +12,24 @@ use lib.ListN.{length}
 use lib.IntN.{ℤ}
 use lib.Signed.{◌≤ℤ◌, ◌<ℤ◌, lt_z, lt_z_yes, ≤ℤ_refl, clash_ℤ}
 use Rattle.exact.proofs.Order.{of_true, lt_z_false, lt_z_true-≤, ≤ℤ-trans}
+use Rattle.std.specs.Prelude.{Option, None, Some}
+use Rattle.refusal.specs.Numbers.{answered, refused}
 use Rattle.number.specs.Read.{pick}
 use Rattle.marks.specs.Count.{point_count}
 use Rattle.walk.specs.Drawn.{Drawn}
 use Rattle.walk.specs.Tests.{record_sound}
 use Rattle.reaches.specs.declared.Place.{Place}
-use Rattle.reaches.specs.declared.Best.{Best}
-use Rattle.reaches.specs.declared.Best.TheVariants.{Nothing, Found}
-use Rattle.reaches.specs.declared.WidestAnswer.TheVariants as W
 use Rattle.reaches.specs.Cells.{Reaches, cell_at}
 use Rattle.reaches.specs.Widest.{complete, width, place_of, beats, wider, considered, widest_among, answer_of, widest_lent, widest_answer, IsWidest, NoneComplete, WidestPlace}
 use Rattle.reaches.specs.Inner.{Room}
 
 -- the loop over stations
 module _ (count : ℕ) (r : Reaches) where
-  pub none_considered : widest_among count 0 r ≡ Nothing
+  pub none_considered : widest_among count 0 r ≡ None
   unfolding widest_among
   none_considered = refl
 
-  pub one_considered : (i : ℕ) (b : Best) → b ≡ widest_among count i r → considered count i (cell_at i r) b ≡ widest_among count (i + 1) r
+  pub one_considered : (i : ℕ) (b : Option Place) → b ≡ widest_among count i r → considered count i (cell_at i r) b ≡ widest_among count (i + 1) r
   unfolding widest_among
   one_considered i b e = rw (add-one i, e)
 
@@ -52,17 +51,17 @@ lent_room asked r e =
 
 -- the answers
 module _ (s : Drawn) (asked : ℕ) (r : Reaches) where
-  pub not_lent : widest_lent asked r ≡ false → widest_answer s asked r ≡ W.Refused 21
+  pub not_lent : widest_lent asked r ≡ false → widest_answer s asked r ≡ refused 21
   unfolding widest_answer
   not_lent e = rw e
 
-  pub not_sound : widest_lent asked r ≡ true → record_sound asked s ≡ false → widest_answer s asked r ≡ W.Refused 27
+  pub not_sound : widest_lent asked r ≡ true → record_sound asked s ≡ false → widest_answer s asked r ≡ refused 27
   unfolding widest_answer
   not_sound e f = rw (e, f)
 
-  pub answered : (b : Best) → widest_lent asked r ≡ true → record_sound asked s ≡ true → b ≡ widest_among (point_count s.vehicle) asked r → widest_answer s asked r ≡ answer_of b
+  pub answer_best : (b : Option Place) → widest_lent asked r ≡ true → record_sound asked s ≡ true → b ≡ widest_among (point_count s.vehicle) asked r → widest_answer s asked r ≡ answer_of b
   unfolding widest_answer
-  answered b e f g = rw (e, f, ← g)
+  answer_best b e f g = rw (e, f, ← g)
 
 -- orders
 ≤-<-trans : {a b c : ℤ} → a ≤ℤ b → b <ℤ c → a <ℤ c
@@ -91,18 +90,18 @@ never_both : {A : Type 0} {b : Bool} → b ≡ true → b ≡ false → A
 never_both p q = absurd (let z : ◌≡◌ {A = ℕ} 0 1 = cc in omega arith)
 
 -- the best of the first n stations is right
-abbrev pub Right : ℕ → ℕ → Reaches → Best → Type 0
-Right count n r Nothing = NoneComplete count n r
-Right count n r (Found p) = IsWidest count n r p
+abbrev pub Right : ℕ → ℕ → Reaches → Option Place → Type 0
+Right count n r None = NoneComplete count n r
+Right count n r (Some p) = IsWidest count n r p
 
 module _ (count n : ℕ) (r : Reaches) where
   abbrev here : Place
   here = place_of n (cell_at n r)
 
   -- station n is not complete
-  passed_over : complete count (cell_at n r) ≡ false → (b : Best) → Right count n r b → Right count (suc n) r b
-  passed_over e Nothing h = below_next (λ (i : ℕ). complete count (cell_at i r) ≡ false) n h e
-  passed_over e (Found p) h =
+  passed_over : complete count (cell_at n r) ≡ false → (b : Option Place) → Right count n r b → Right count (suc n) r b
+  passed_over e None h = below_next (λ (i : ℕ). complete count (cell_at i r) ≡ false) n h e
+  passed_over e (Some p) h =
       record {
         inside = omega (arith, h.inside);
         whole = h.whole;
@@ -134,15 +133,15 @@ module _ (count n : ℕ) (r : Reaches) where
         earliest = h.earliest;
       }
 
-  compared : complete count (cell_at n r) ≡ true → (b : Best) → Right count n r b → Right count (suc n) r (wider here b)
-  compared e Nothing h = beaten e (λ i l t. never_both t (h i l))
-  compared e (Found q) h = by (beats here q) refl
+  compared : complete count (cell_at n r) ≡ true → (b : Option Place) → Right count n r b → Right count (suc n) r (wider here b)
+  compared e None h = beaten e (λ i l t. never_both t (h i l))
+  compared e (Some q) h = by (beats here q) refl
     where
-      by : (t : Bool) → beats here q ≡ t → Right count (suc n) r (pick t (Found here) (Found q))
+      by : (t : Bool) → beats here q ≡ t → Right count (suc n) r (pick t (Some here) (Some q))
       by true f = beaten e (λ i l t. ≤-<-trans (h.greatest i l t) ((beats_means here q).0 f))
       by false f = kept q ((beats_means here q).1 f) h
 
-  next_right : (b : Best) → Right count n r b → Right count (suc n) r (considered count n (cell_at n r) b)
+  next_right : (b : Option Place) → Right count n r b → Right count (suc n) r (considered count n (cell_at n r) b)
   next_right b h = by (complete count (cell_at n r)) refl
     where
       by : (t : Bool) → complete count (cell_at n r) ≡ t → Right count (suc n) r (pick t (wider here b) b)
@@ -159,33 +158,33 @@ module _ (s : Drawn) (asked : ℕ) (r : Reaches) where
   abbrev count : ℕ
   count = point_count s.vehicle
 
-  found : (p : Place) → widest_answer s asked r ≡ W.At p → IsWidest count asked r p
+  found : (p : Place) → widest_answer s asked r ≡ answered p → IsWidest count asked r p
   unfolding widest_answer
   found p = by (widest_lent asked r) (record_sound asked s) (widest_among count asked r) (among_right count asked r)
     where
-      by : (t u : Bool) (b : Best) → Right count asked r b → pick t (pick u (answer_of b) (W.Refused 27)) (W.Refused 21) ≡ W.At p → IsWidest count asked r p
-      by true true Nothing h e = absurd (let z : ◌≡◌ {A = ℕ} 0 1 = cc in omega arith)
-      by true true (Found q) h e = let f : q ≡ p = cc in subst (IsWidest count asked r) f h
+      by : (t u : Bool) (b : Option Place) → Right count asked r b → pick t (pick u (answer_of b) (refused 27)) (refused 21) ≡ answered p → IsWidest count asked r p
+      by true true None h e = absurd (let z : ◌≡◌ {A = ℕ} 0 1 = cc in omega arith)
+      by true true (Some q) h e = let f : q ≡ p = cc in subst (IsWidest count asked r) f h
       by true false b h e = absurd (let z : ◌≡◌ {A = ℕ} 0 1 = cc in omega arith)
       by false u b h e = absurd (let z : ◌≡◌ {A = ℕ} 0 1 = cc in omega arith)
 
-  nowhere : widest_answer s asked r ≡ W.Refused 24 → NoneComplete count asked r
+  nowhere : widest_answer s asked r ≡ refused 24 → NoneComplete count asked r
   unfolding widest_answer
   nowhere = by (widest_lent asked r) (record_sound asked s) (widest_among count asked r) (among_right count asked r)
     where
-      by : (t u : Bool) (b : Best) → Right count asked r b → pick t (pick u (answer_of b) (W.Refused 27)) (W.Refused 21) ≡ W.Refused 24 → NoneComplete count asked r
-      by true true Nothing h e = h
-      by true true (Found q) h e = absurd (let z : ◌≡◌ {A = ℕ} 0 1 = cc in omega arith)
+      by : (t u : Bool) (b : Option Place) → Right count asked r b → pick t (pick u (answer_of b) (refused 27)) (refused 21) ≡ refused 24 → NoneComplete count asked r
+      by true true None h e = h
+      by true true (Some q) h e = absurd (let z : ◌≡◌ {A = ℕ} 0 1 = cc in omega arith)
       by true false b h e = absurd (let f : ◌≡◌ {A = ℕ} 27 24 = cc in omega arith)
       by false u b h e = absurd (let f : ◌≡◌ {A = ℕ} 21 24 = cc in omega arith)
 
-  only : widest_lent asked r ≡ true → record_sound asked s ≡ true → NoneComplete count asked r → widest_answer s asked r ≡ W.Refused 24
+  only : widest_lent asked r ≡ true → record_sound asked s ≡ true → NoneComplete count asked r → widest_answer s asked r ≡ refused 24
   unfolding widest_answer
   only e f n = rw (e, f) (by (widest_among count asked r) (among_right count asked r))
     where
-      by : (b : Best) → Right count asked r b → answer_of b ≡ W.Refused 24
-      by Nothing h = refl
-      by (Found p) h = never_both h.whole (n p.station h.inside)
+      by : (b : Option Place) → Right count asked r b → answer_of b ≡ refused 24
+      by None h = refl
+      by (Some p) h = never_both h.whole (n p.station h.inside)
 
 pub widest_place_lem : WidestPlace
 widest_place_lem = record { found = found; nowhere = nowhere; only = only }

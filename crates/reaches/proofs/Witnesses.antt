@@ -1,5 +1,5 @@
 -- Each requirement of this crate can be met, at the ends of its ranges too.
-use Prim.Native.Nat.{ℕ, ◌+◌, ◌*◌, ◌-◌, ◌/◌, ◌<◌}
+use Prim.Native.Nat.{ℕ, ◌+◌, ◌*◌, ◌/◌, ◌<◌}
 use mathlib.Core.Path.{◌≡◌, refl, sym, subst}
 use mathlib.Core.List.{List, [], ◌∷◌}
 use native.Mathlib.Omega.{arith}
@@ -10,14 +10,15 @@ use lib.Signed.{◌≤ℤ◌, le_z_yes}
 use Rattle.plane.specs.declared.Vec2.{Vec2}
 use Rattle.marks.specs.Marks.{mark_width}
 use Rattle.marks.specs.Count.{point_capacity}
-use Rattle.marks.specs.Requires.{HasRoom, Counted}
+use Rattle.marks.specs.Requires.{Counted}
 use Rattle.path.specs.declared.Station.{Station}
 use Rattle.path.specs.Laying.{PathRuns, SoundStation}
 use Rattle.walk.specs.Drawn.{station_at}
 use Rattle.walk.specs.Rig.{zero_vector}
 use Rattle.reaches.specs.Cells.{Reaches}
-use Rattle.reaches.specs.Inner.{Room, SizedPoint, Measurable, Movable, Numbered, AllMoves, Enterable, Crossable, Searchable}
-use Rattle.reaches.specs.Far.{apart, Spread, PairSpread, Sized, BothSized, AllSized, PairsSized, PairMoves, PairAt, Measured, NearStation, AtStation}
+use Rattle.reaches.specs.Inner.{Room, CellLent, SizedPoint, Measurable, Movable, Numbered, AllMoves, Enterable, Crossable, Searchable}
+use Rattle.reaches.specs.declared.far.Spread.{Spread}
+use Rattle.reaches.specs.Far.{apart, Near, PairSpread, SpreadOf, BothSized, AllSized, PairsSized, Spreadable, PairMoves, PairsMove, Measured, Missable, AtStation}
 
 abbrev vec : ℤ → ℤ → Vec2
 vec a b = record { x = a; y = b }
@@ -43,6 +44,9 @@ runs = record { left = pos 2147483647 ∷ []; right = negsuc 2147483647 ∷ []; 
 room_met : Room 1 runs
 room_met = record { left = lit≤ tt; right = lit≤ tt; marks = lit≤ tt }
 
+lent_met : CellLent 0 runs
+lent_met = record { left = lit< tt; right = lit< tt; marks = lit< tt }
+
 station_met : SoundStation corner
 station_met = record { x = record { size = lit≤ tt }; y = record { size = lit≤ tt }; heading = record { low = le_z_yes tt; high = le_z_yes tt } }
 
@@ -58,9 +62,6 @@ movable_met = record { station = station_met; from = point_met; to = point_met }
 numbered_met : Numbered 5 corner opposite opposite
 numbered_met = record { number = record { place = lit< tt }; move = movable_met }
 
-room_there_met : HasRoom (point_capacity - 1)
-room_there_met = record { place = lit< tt }
-
 counted_met : Counted point_capacity
 counted_met = record { most = lit≤ tt }
 
@@ -68,27 +69,27 @@ counted_met = record { most = lit≤ tt }
 all_met : (p : ℕ) → p < point_capacity → SizedPoint (get_or points p zero_vector)
 all_met p h = subst SizedPoint (sym (get_or-replicate point_capacity p opposite zero_vector h)) point_met
 
-moves_met : AllMoves corner point_capacity points points
-moves_met = record { room = counted_met; all_old = lit≤ tt; all_new = lit≤ tt; move = λ p h. record { station = station_met; from = all_met p h; to = all_met p h } }
+moves_met : AllMoves corner points points
+moves_met = record { room = counted_met; both = refl; move = λ p h. record { station = station_met; from = all_met p h; to = all_met p h } }
 
 -- they do not spread at all
-spread_met : Spread opposite point_capacity points points (pos 0)
-spread_met = record { old = together; new = together; size = record { size = lit≤ tt } }
-  where
-    together : (p : ℕ) → p < point_capacity → apart opposite (get_or points p zero_vector) ≤ℤ pos 0
-    together p h = subst (λ (a : Vec2). apart opposite a ≤ℤ pos 0) (sym (get_or-replicate point_capacity p opposite zero_vector h)) (le_z_yes tt)
+abbrev spread : Spread
+spread = record { from = opposite; near = pos 0; beside = pos 0 }
 
-sized_met : Sized (pos 320000000)
-sized_met = record { size = record { size = lit≤ tt } }
+near_met : Near opposite points point_capacity (pos 0)
+near_met = record { each = λ p h. subst (λ (a : Vec2). apart opposite a ≤ℤ pos 0) (sym (get_or-replicate point_capacity p opposite zero_vector h)) (le_z_yes tt) }
 
 both_met : BothSized opposite opposite
 both_met = record { first = point_met; second = point_met }
 
-sized_points_met : AllSized opposite point_capacity points points
-sized_points_met = record { place = point_met; room = counted_met; old = all_met; new = all_met }
+sized_points_met : AllSized opposite (pos 640000000) points
+sized_points_met = record { place = point_met; least = record { size = lit≤ tt }; each = all_met }
 
 measured_met : Measured corner opposite (pos 640000000)
 measured_met = record { point = measurable_met; near = record { size = lit≤ tt } }
+
+missable_met : Missable spread corner
+missable_met = record { point = measurable_met; near = record { size = lit≤ tt } }
 
 -- nor do the points of a pair
 pairs_met : PairSpread (point_capacity / 2) points points (pos 0)
@@ -97,29 +98,35 @@ pairs_met = record { new = λ k h. together (2 * k) (2 * k) (omega arith) (omega
     together : (p q : ℕ) → p < point_capacity → q < point_capacity → apart (get_or points p zero_vector) (get_or points q zero_vector) ≤ℤ pos 0
     together p q h k = rw (get_or-replicate point_capacity p opposite zero_vector h, get_or-replicate point_capacity q opposite zero_vector k) (le_z_yes tt)
 
-pairs_sized_met : PairsSized (point_capacity / 2) points points
-pairs_sized_met = record { room = counted_met; old = all_met; new = all_met }
+pairs_sized_met : PairsSized points points
+pairs_sized_met = record { both = refl; old = all_met; new = all_met }
 
-pair_met : PairMoves corner (pos 0) opposite opposite opposite opposite
+spreadable_met : Spreadable points points
+spreadable_met = record { some = lit< tt; sized = pairs_sized_met }
+
+spread_met : SpreadOf spread points points
+spread_met = record { place = point_met; old = near_met; new = near_met; size = record { size = lit≤ tt }; pairs = pairs_met }
+
+abbrev pair : List Vec2
+pair = opposite ∷ opposite ∷ []
+
+pair_met : PairMoves corner (pos 0) pair pair
 pair_met = record { left = movable_met; right = movable_met; new_near = le_z_yes tt; old_right_near = le_z_yes tt; new_right_near = le_z_yes tt; size = record { size = lit≤ tt } }
 
-pair_at_met : PairAt corner (pos 0) (point_capacity / 2 - 1) points points
-pair_at_met = record { room = room_there_met; moves = pair_met }
+pairs_move_met : PairsMove corner (pos 0) points points
+pairs_move_met = record { moves = moves_met; even = refl; pairs = pairs_met }
 
-enterable_met : Enterable 0 corner point_capacity points points runs
-enterable_met = record { moves = moves_met; left = lit< tt; right = lit< tt; marks = lit< tt }
+enterable_met : Enterable 0 corner points points runs
+enterable_met = record { moves = moves_met; lent = lent_met }
 
-near_station_met : NearStation 0 corner point_capacity points points (pos 0) runs
-near_station_met = record { moves = moves_met; even = refl; pairs = pairs_met; left = lit< tt; right = lit< tt; marks = lit< tt }
-
-at_station_met : AtStation 0 corner point_capacity points points opposite (pos 0) (pos 0) runs
-at_station_met = record { station = near_station_met; place = measurable_met; spread = spread_met }
+at_station_met : AtStation 0 corner spread points points runs
+at_station_met = record { cell = enterable_met; station = station_met; even = refl; spread = spread_met }
 
 stations_met : (i : ℕ) → i < 1 → SoundStation (station_at path i)
 stations_met i h = let e : i ≡ 0 = omega arith in subst (λ (j : ℕ). SoundStation (station_at path j)) (sym e) station_met
 
 crossable_met : Crossable 1 path point_capacity points points runs
-crossable_met = record { lent = refl; room = room_met; stations = stations_met; some = lit< tt; even = refl; points = counted_met; old = all_met; new = all_met }
+crossable_met = record { lent = refl; room = room_met; stations = stations_met; some = lit< tt; even = refl; points = counted_met; both = refl; old = all_met; new = all_met }
 
 searchable_met : Searchable mark_width 1 runs
 searchable_met = record { bits = record { places = lit≤ tt }; room = room_met }

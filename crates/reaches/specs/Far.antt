@@ -3,13 +3,14 @@ use Rattle.std.specs.Prelude.{ℕ, ◌+◌, ◌*◌, ◌/◌, ◌<◌, ◌≡◌
 use Rattle.std.specs.Int.Signed.{le_z}
 use Rattle.exact.specs.Size.{Within}
 use Rattle.plane.specs.declared.Vec2.{Vec2}
-use Rattle.marks.specs.Requires.{HasRoom, Counted}
 use Rattle.plane.specs.Length.{heading_length}
 use Rattle.path.specs.declared.Station.{Station}
+use Rattle.path.specs.Laying.{SoundStation}
 use Rattle.walk.specs.Rig.{zero_vector}
+use Rattle.reaches.specs.declared.far.Spread.{Spread}
 use Rattle.reaches.specs.Crossing.{ahead_of, crosses}
 use Rattle.reaches.specs.Cells.{Reaches}
-use Rattle.reaches.specs.Inner.{SizedPoint, Measurable, Movable, AllMoves}
+use Rattle.reaches.specs.Inner.{SizedPoint, Measurable, Movable, AllMoves, Enterable}
 
 -- how far apart two points lie, east and north together
 abbrev pub apart : Vec2 → Vec2 → ℤ
@@ -19,10 +20,18 @@ apart a b = pos (nat_abs (b.x -ℤ a.x)) +ℤ pos (nat_abs (b.y -ℤ a.y))
 unfoldable pub far_off : Station → Vec2 → ℤ → Bool
 far_off s a near = le_z (near *ℤ heading_length) (ahead_of s a) || not (le_z (pos 0 -ℤ near *ℤ heading_length) (ahead_of s a))
 
--- no point, before the step or after it, lies farther from a place than r
-pub record Spread (from : Vec2) (count : ℕ) (olds news : List Vec2) (r : ℤ) : Type 0 where
-  pub old : (p : ℕ) → p < count → apart from (get_or olds p zero_vector) ≤ℤ r
-  pub new : (p : ℕ) → p < count → apart from (get_or news p zero_vector) ≤ℤ r
+-- a station that no point reaches
+abbrev pub misses : Spread → Station → Bool
+misses w s = far_off s w.from w.near
+
+-- none of the first n points lies farther from a place than r
+pub record Near (from : Vec2) (points : List Vec2) (n : ℕ) (r : ℤ) : Type 0 where
+  pub each : (p : ℕ) → p < n → apart from (get_or points p zero_vector) ≤ℤ r
+
+-- and r is not less than `low`
+pub record Farthest (from : Vec2) (low : ℤ) (points : List Vec2) (n : ℕ) (r : ℤ) : Type 0 where
+  pub least : low ≤ℤ r
+  pub near : Near from points n r
   pub size : Within 640000000 r
 
 -- no point of a pair, before the step or after it, lies farther than r from the place of its left one before the step
@@ -33,56 +42,69 @@ pub record PairSpread (pairs : ℕ) (olds news : List Vec2) (r : ℤ) : Type 0 w
   pub size : Within 640000000 r
 
 -- what is asked of the numbers, so that nothing overflows
-pub record Sized (z : ℤ) : Type 0 where
-  pub size : Within 320000000 z
-
 pub record BothSized (a b : Vec2) : Type 0 where
   pub first : SizedPoint a
   pub second : SizedPoint b
 
-pub record AllSized (from : Vec2) (count : ℕ) (olds news : List Vec2) : Type 0 where
+pub record AllSized (from : Vec2) (low : ℤ) (points : List Vec2) : Type 0 where
   pub place : SizedPoint from
-  pub room : Counted count
-  pub old : (p : ℕ) → p < count → SizedPoint (get_or olds p zero_vector)
-  pub new : (p : ℕ) → p < count → SizedPoint (get_or news p zero_vector)
+  pub least : Within 640000000 low
+  pub each : (p : ℕ) → p < length points → SizedPoint (get_or points p zero_vector)
 
-pub record PairsSized (pairs : ℕ) (olds news : List Vec2) : Type 0 where
-  pub room : Counted (2 * pairs)
-  pub old : (p : ℕ) → p < 2 * pairs → SizedPoint (get_or olds p zero_vector)
-  pub new : (p : ℕ) → p < 2 * pairs → SizedPoint (get_or news p zero_vector)
+pub record PairsSized (olds news : List Vec2) : Type 0 where
+  pub both : length olds ≡ length news
+  pub old : (p : ℕ) → p < length olds → SizedPoint (get_or olds p zero_vector)
+  pub new : (p : ℕ) → p < length olds → SizedPoint (get_or news p zero_vector)
 
--- the moves of a pair at a station
-pub record PairMoves (s : Station) (near : ℤ) (old new old_right new_right : Vec2) : Type 0 where
-  pub left : Movable s old new
-  pub right : Movable s old_right new_right
-  pub new_near : apart old new ≤ℤ near
-  pub old_right_near : apart old old_right ≤ℤ near
-  pub new_right_near : apart old new_right ≤ℤ near
+-- the points of a step, of which there are some
+pub record Spreadable (olds news : List Vec2) : Type 0 where
+  pub some : 0 < length olds
+  pub sized : PairsSized olds news
+
+-- what a spread says of the points of a step
+pub record SpreadOf (w : Spread) (olds news : List Vec2) : Type 0 where
+  pub place : SizedPoint w.from
+  pub old : Near w.from olds (length olds) w.near
+  pub new : Near w.from news (length olds) w.near
+  pub size : Within 640000000 w.near
+  pub pairs : PairSpread (length olds / 2) olds news w.beside
+
+-- the left and the right point of a pair
+abbrev pub left_of : List Vec2 → Vec2
+left_of pair = get_or pair 0 zero_vector
+
+abbrev pub right_of : List Vec2 → Vec2
+right_of pair = get_or pair 1 zero_vector
+
+-- the moves of a pair at a station, and whether either of it crosses
+pub record PairMoves (s : Station) (near : ℤ) (old new : List Vec2) : Type 0 where
+  pub left : Movable s (left_of old) (left_of new)
+  pub right : Movable s (right_of old) (right_of new)
+  pub new_near : apart (left_of old) (left_of new) ≤ℤ near
+  pub old_right_near : apart (left_of old) (right_of old) ≤ℤ near
+  pub new_right_near : apart (left_of old) (right_of new) ≤ℤ near
   pub size : Within 640000000 near
 
--- pair k of the points, and whether either of it crosses
-abbrev pub pair_crosses : Station → ℕ → List Vec2 → List Vec2 → Bool
-pair_crosses s k olds news = crosses s (get_or olds (2 * k) zero_vector) (get_or news (2 * k) zero_vector) || crosses s (get_or olds (2 * k + 1) zero_vector) (get_or news (2 * k + 1) zero_vector)
+abbrev pub pair_crosses : Station → List Vec2 → List Vec2 → Bool
+pair_crosses s old new = crosses s (left_of old) (left_of new) || crosses s (right_of old) (right_of new)
 
-pub record PairAt (s : Station) (near : ℤ) (k : ℕ) (olds news : List Vec2) : Type 0 where
-  pub room : HasRoom (2 * k + 1)
-  pub moves : PairMoves s near (get_or olds (2 * k) zero_vector) (get_or news (2 * k) zero_vector) (get_or olds (2 * k + 1) zero_vector) (get_or news (2 * k + 1) zero_vector)
+-- the moves of all points, in pairs, at a station
+pub record PairsMove (s : Station) (near : ℤ) (olds news : List Vec2) : Type 0 where
+  pub moves : AllMoves s olds news
+  pub even : 2 * (length olds / 2) ≡ length olds
+  pub pairs : PairSpread (length olds / 2) olds news near
 
 pub record Measured (s : Station) (a : Vec2) (r : ℤ) : Type 0 where
   pub point : Measurable s a
   pub near : Within 640000000 r
 
--- a step at a station near the rig, whose cell is to be written
-pub record NearStation (i : ℕ) (s : Station) (count : ℕ) (olds news : List Vec2) (beside : ℤ) (r : Reaches) : Type 0 where
-  pub moves : AllMoves s count olds news
-  pub even : 2 * (count / 2) ≡ count
-  pub pairs : PairSpread (count / 2) olds news beside
-  pub left : i < length r.left
-  pub right : i < length r.right
-  pub marks : i < length r.marks
+pub record Missable (w : Spread) (s : Station) : Type 0 where
+  pub point : Measurable s w.from
+  pub near : Within 640000000 w.near
 
--- the same at any station, with a place that the points spread from
-pub record AtStation (i : ℕ) (s : Station) (count : ℕ) (olds news : List Vec2) (from : Vec2) (near beside : ℤ) (r : Reaches) : Type 0 where
-  pub station : NearStation i s count olds news beside r
-  pub place : Measurable s from
-  pub spread : Spread from count olds news near
+-- a step at any station, with how far its points spread
+pub record AtStation (i : ℕ) (s : Station) (w : Spread) (olds news : List Vec2) (r : Reaches) : Type 0 where
+  pub cell : Enterable i s olds news r
+  pub station : SoundStation s
+  pub even : 2 * (length olds / 2) ≡ length olds
+  pub spread : SpreadOf w olds news

@@ -3,4 +3,4 @@ pub mod Crossing
 pub mod Widest
 pub mod Inner
 pub mod Far
-pub mod Coordinates
+pub mod Lent

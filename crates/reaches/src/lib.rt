@@ -1,24 +1,25 @@
 // What the stations keep of the points that cross them, and where the rig is widest.
 #![tactic(auto)]
 
-ghost use Rattle.std.specs.Prelude.{◌≡◌, take};
-ghost use Rattle.path.specs.Laying.{path_runs};
-ghost use Rattle.reaches.specs.Cells.{reach_runs, cleared};
-ghost use Rattle.reaches.specs.Coordinates.{points_of};
+ghost use Rattle.std.specs.Prelude.{◌≡◌, length};
+ghost use Rattle.refusal.specs.Numbers.{as_answer};
+ghost use Rattle.path.specs.Lent.{path_of};
+ghost use Rattle.reaches.specs.Cells.{reach_runs, cell_at, store_cell, cleared};
+ghost use Rattle.reaches.specs.Lent.{room_reaches, reached_of, SameLoans};
 ghost use Rattle.reaches.specs.Crossing.{crossed_station, crossed};
 ghost use Rattle.reaches.specs.Widest.{place_of, wider as wider_of, considered as considered_of, widest_among, widest_lent, widest_answer, WidestPlace};
 ghost use Rattle.walk.specs.Drawn.{view};
 ghost use Rattle.marks.specs.Requires.{HavePlaces};
-ghost use Rattle.reaches.specs.Inner.{Room, Searchable, Enterable, Crossable};
-ghost use Rattle.reaches.specs.Far.{AtStation, NearStation};
+ghost use Rattle.reaches.specs.Inner.{Room, CellLent, Searchable, Enterable, Crossable};
+ghost use Rattle.reaches.specs.Far.{AtStation};
 
-use crate::coordinates::COORDINATES;
-use marks::{Mark, POINT_CAPACITY};
-use path::Station;
+use crate::far::Spread;
+use marks::Mark;
+use path::{Path, Station};
 use plane::Vec2;
+use refusal::Fault;
 use walk::Walk;
 
-mod coordinates;
 mod crossing;
 mod far;
 
@@ -39,145 +40,118 @@ pub struct Place {
     pub right: i64,
 }
 
-// The widest place so far.
+// Three lent runs, one entry a station: the left and the right reach, and the mark.
+#[derive(Drop)]
+pub struct ReachRoom<'a> {
+    pub left: &'a mut [i32],
+    pub right: &'a mut [i32],
+    pub marks: &'a mut [Mark],
+}
+
+// The same three runs, to be read.
 #[derive(Clone, Copy)]
-pub enum Best {
-    Nothing,
-    Found(Place),
+pub struct Reached<'a> {
+    pub left: &'a [i32],
+    pub right: &'a [i32],
+    pub marks: &'a [Mark],
 }
 
-#[derive(Clone, Copy)]
-pub enum WidestAnswer {
-    At(Place),
-    Refused(u8),
-}
-
-// Every station asked for, as a placement leaves it.
-pub fn clear(asked: usize, left: &mut [i32], right: &mut [i32], marks: &mut [Mark])
-    requires { Room asked (reach_runs left.old right.old marks.old) }
-    ensures { reach_runs left.new right.new marks.new ≡ cleared asked (reach_runs left.old right.old marks.old) }
-{
-    let mut at: usize = 0;
-    while at < asked {
-        left[at] = 2000000000;
-        right[at] = -2000000000;
-        marks[at] = 0;
-        at += 1;
-    }
-}
-
-// A made step entered at a station that a point crosses.
-fn enter_station(
-    i: usize,
-    s: Station,
-    count: usize,
-    olds: &[i64; COORDINATES],
-    news: &[i64; COORDINATES],
-    left: &mut [i32],
-    right: &mut [i32],
-    marks: &mut [Mark],
-)
-    requires { Enterable i s count (points_of olds.now) (points_of news.now) (reach_runs left.old right.old marks.old) }
-    ensures { reach_runs left.new right.new marks.new ≡ crossed_station i s (take count (points_of olds.now)) (take count (points_of news.now)) (reach_runs left.old right.old marks.old) }
-{
-    let cell = Cell {
-        left: left[i],
-        right: right[i],
-        mark: marks[i],
-    };
-    let next = crossing::crossed_by_all(s, count, olds, news, cell);
-    let l = next.left;
-    let r = next.right;
-    left[i] = l;
-    right[i] = r;
-    marks[i] = next.mark;
-}
-
-// A made step at a station near the rig, which is not written where no point crosses it; beside is how far the points of a pair spread.
-fn cross_near_station(
-    i: usize,
-    s: Station,
-    count: usize,
-    olds: &[i64; COORDINATES],
-    news: &[i64; COORDINATES],
-    beside: i64,
-    left: &mut [i32],
-    right: &mut [i32],
-    marks: &mut [Mark],
-)
-    requires { NearStation i s count (points_of olds.now) (points_of news.now) beside (reach_runs left.old right.old marks.old) }
-    ensures { reach_runs left.new right.new marks.new ≡ crossed_station i s (take count (points_of olds.now)) (take count (points_of news.now)) (reach_runs left.old right.old marks.old) }
-{
-    let mut k: usize = 0;
-    while k < count / 2 {
-        if crossing::pair_crosses(s, beside, k, olds, news) {
-            enter_station(i, s, count, olds, news, left, right, marks);
-            return;
+impl Reached<'_> {
+    // What one station has kept.
+    fn cell(self, i: usize) -> Cell
+        requires { CellLent i (reached_of self) }
+        ensures { result ≡ cell_at i (reached_of self.entry) }
+    {
+        Cell {
+            left: self.left[i],
+            right: self.right[i],
+            mark: self.marks[i],
         }
-        k += 1;
     }
 }
 
-// A made step at one station; near is how far the points spread from a place.
-fn cross_station(
-    i: usize,
-    s: Station,
-    count: usize,
-    olds: &[i64; COORDINATES],
-    news: &[i64; COORDINATES],
-    from: Vec2,
-    near: i64,
-    beside: i64,
-    left: &mut [i32],
-    right: &mut [i32],
-    marks: &mut [Mark],
-)
-    requires { AtStation i s count (points_of olds.now) (points_of news.now) from near beside (reach_runs left.old right.old marks.old) }
-    ensures { reach_runs left.new right.new marks.new ≡ crossed_station i s (take count (points_of olds.now)) (take count (points_of news.now)) (reach_runs left.old right.old marks.old) }
-{
-    if far::far_off(s, from, near) {
-        return;
+impl<'a> ReachRoom<'a> {
+    // What the stations have kept, to be read.
+    pub fn reached(&self) -> Reached<'_>
+        ensures { reach_runs result.left.now result.right.now result.marks.now ≡ room_reaches self.now }
+    {
+        Reached {
+            left: self.left,
+            right: self.right,
+            marks: self.marks,
+        }
     }
-    cross_near_station(i, s, count, olds, news, beside, left, right, marks);
-}
 
-// A made step at every station asked for, of a rig of so many points. The middle one by number lies inside a rig of two units or more, so that fewer stations are near than from an end.
-pub fn cross(
-    asked: usize,
-    xs: &[i32],
-    ys: &[i32],
-    gxs: &[i32],
-    gys: &[i32],
-    count: usize,
-    olds: [Vec2; POINT_CAPACITY],
-    news: [Vec2; POINT_CAPACITY],
-    left: &mut [i32],
-    right: &mut [i32],
-    marks: &mut [Mark],
-)
-    requires { Crossable asked (path_runs xs.now ys.now gxs.now gys.now) count olds news (reach_runs left.old right.old marks.old) }
-    ensures { reach_runs left.new right.new marks.new ≡ crossed asked (path_runs xs.now ys.now gxs.now gys.now) (take count olds) (take count news) (reach_runs left.old right.old marks.old) }
-{
-    let middle = olds[count / 2];
-    let near = far::spread(middle, count, olds, news);
-    let beside = far::pair_spread(count / 2, olds, news);
-    let from = coordinates::coordinates_of(olds);
-    let to = coordinates::coordinates_of(news);
-    let mut i: usize = 0;
-    while i < asked {
-        let s = walk::tests::station_at(xs, ys, gxs, gys, i);
-        cross_station(
-            i, s, count, &from, &to, middle, near, beside, left, right, marks,
-        );
-        i += 1;
+    // What one station keeps from now on.
+    fn store(&mut self, i: usize, c: Cell)
+        requires { CellLent i (room_reaches self.old) }
+        ensures loans { SameLoans self.old self.new }
+        ensures stored { room_reaches self.new ≡ store_cell i c (room_reaches self.old) }
+    {
+        self.left[i] = c.left;
+        self.right[i] = c.right;
+        self.marks[i] = c.mark;
+    }
+
+    // Every station asked for, as a placement leaves it.
+    pub fn clear(&mut self, asked: usize)
+        requires { Room asked (room_reaches self.old) }
+        ensures loans { SameLoans self.old self.new }
+        ensures cleared { room_reaches self.new ≡ cleared asked (room_reaches self.old) }
+    {
+        let cleared = Cell {
+            left: 2000000000,
+            right: -2000000000,
+            mark: 0,
+        };
+        for at in 0..asked {
+            self.store(at, cleared);
+        }
+    }
+
+    // A made step entered at a station that a point crosses.
+    // Kept: two slices, for the reason given at `ReachRoom::cross`.
+    fn enter_station(&mut self, i: usize, s: Station, olds: &[Vec2], news: &[Vec2])
+        requires { Enterable i s olds.now news.now (room_reaches self.old) }
+        ensures loans { SameLoans self.old self.new }
+        ensures entered { room_reaches self.new ≡ crossed_station i s olds.now news.now (room_reaches self.old) }
+    {
+        let cell = self.reached().cell(i);
+        self.store(i, crossing::crossed_by_all(s, olds, news, cell));
+    }
+
+    // A made step at one station, which is not written where no point crosses it.
+    // Kept: two slices, for the reason given at `ReachRoom::cross`.
+    fn cross_station(&mut self, i: usize, s: Station, spread: Spread, olds: &[Vec2], news: &[Vec2])
+        requires { AtStation i s spread olds.now news.now (room_reaches self.old) }
+        ensures loans { SameLoans self.old self.new }
+        ensures crossed { room_reaches self.new ≡ crossed_station i s olds.now news.now (room_reaches self.old) }
+    {
+        if !spread.misses(s) && crossing::some_crosses(s, spread.beside, olds, news) {
+            self.enter_station(i, s, olds, news);
+        }
+    }
+
+    // A made step at every station asked for, of a rig's points before it and after it.
+    // Kept: the new form is no plainer: a struct of the two slices would be built for this call alone, and taken apart where points or pairs are gone through.
+    pub fn cross(&mut self, asked: usize, path: Path, olds: &[Vec2], news: &[Vec2])
+        requires { Crossable asked (path_of path) (length olds.now) olds.now news.now (room_reaches self.old) }
+        ensures loans { SameLoans self.old self.new }
+        ensures crossed { room_reaches self.new ≡ crossed asked (path_of path.entry) olds.now news.now (room_reaches self.old) }
+    {
+        let spread = Spread::of_step(olds, news);
+        for i in 0..asked {
+            let s = walk::tests::station_at(path, i);
+            self.cross_station(i, s, spread, olds, news);
+        }
     }
 }
 
 fn place_of(i: usize, c: Cell) -> Place
     ensures { result ≡ place_of i c }
 {
-    let left = exact::wide_signed(c.left);
-    let right = exact::wide_signed(c.right);
+    let left = i64::from(c.left);
+    let right = i64::from(c.right);
     Place {
         station: i,
         width: right - left,
@@ -187,22 +161,17 @@ fn place_of(i: usize, c: Cell) -> Place
 }
 
 // A place against the best so far: only a greater width beats it.
-fn wider(p: Place, best: Best) -> Best
+fn wider(p: Place, best: Option<Place>) -> Option<Place>
     ensures { result ≡ wider_of p best }
 {
     match best {
-        Best::Nothing => Best::Found(p),
-        Best::Found(q) => {
-            if q.width < p.width {
-                return Best::Found(p);
-            }
-            best
-        }
+        Some(q) if p.width <= q.width => best,
+        _ => Some(p),
     }
 }
 
 // A station against the best so far; only one that as many points have crossed as the rig has counts.
-fn considered(count: usize, i: usize, c: Cell, best: Best) -> Best
+fn considered(count: usize, i: usize, c: Cell, best: Option<Place>) -> Option<Place>
     requires { HavePlaces count }
     ensures { result ≡ considered_of count i c best }
 {
@@ -213,47 +182,37 @@ fn considered(count: usize, i: usize, c: Cell, best: Best) -> Best
 }
 
 // The best of the stations below asked, for a rig of so many points.
-pub fn widest_among(count: usize, asked: usize, left: &[i32], right: &[i32], marks: &[Mark]) -> Best
-    requires { Searchable count asked (reach_runs left.now right.now marks.now) }
-    ensures { result ≡ widest_among count asked (reach_runs left.now right.now marks.now) }
+pub fn widest_among(count: usize, asked: usize, runs: Reached) -> Option<Place>
+    requires { Searchable count asked (reached_of runs) }
+    ensures { result ≡ widest_among count asked (reached_of runs.entry) }
 {
-    let mut best = Best::Nothing;
-    let mut i: usize = 0;
-    while i < asked {
-        let cell = Cell {
-            left: left[i],
-            right: right[i],
-            mark: marks[i],
-        };
-        best = considered(count, i, cell, best);
-        i += 1;
+    let mut best = None;
+    for i in 0..asked {
+        best = considered(count, i, runs.cell(i), best);
     }
     best
 }
 
-fn widest_lent(asked: usize, left: &[i32], right: &[i32], marks: &[Mark]) -> bool
-    ensures { result ≡ widest_lent asked (reach_runs left.now right.now marks.now) }
+#[tactic(auto, unfolding(crate::specs::Widest::widest_lent))]
+fn widest_lent(asked: usize, runs: Reached) -> bool
+    ensures { result ≡ widest_lent asked (reached_of runs.entry) }
 {
     ((1 <= asked) & (asked <= 2001))
-        & ((asked <= left.len()) & ((asked <= right.len()) & (asked <= marks.len())))
+        & walk::tests::reaches_lent(asked, runs.left.len(), runs.right.len(), runs.marks.len())
 }
 
 // The widest station that all points of a walk's rig have crossed; or 21, then 27, then 24 where there is none.
-pub fn widest(w: Walk, asked: usize, left: &[i32], right: &[i32], marks: &[Mark]) -> WidestAnswer
-    ensures { result ≡ widest_answer (view w) asked (reach_runs left.now right.now marks.now) }
+pub fn widest(w: Walk, asked: usize, runs: Reached) -> Result<Place, Fault>
+    ensures { as_answer result ≡ widest_answer (view w) asked (reached_of runs.entry) }
 {
-    if !widest_lent(asked, left, right, marks) {
-        return WidestAnswer::Refused(21);
+    if !widest_lent(asked, runs) {
+        return Err(Fault::RunTooShort);
     }
     if !walk::tests::record_sound(asked, w) {
-        return WidestAnswer::Refused(27);
+        return Err(Fault::RecordUnsound);
     }
     let count = marks::point_count(w.vehicle);
-    let best = widest_among(count, asked, left, right, marks);
-    match best {
-        Best::Found(p) => WidestAnswer::At(p),
-        Best::Nothing => WidestAnswer::Refused(24),
-    }
+    widest_among(count, asked, runs).ok_or(Fault::NoneComplete)
 }
 
 // Claim: the place answered is complete, no complete station is wider and none earlier as wide; 24 exactly where none is complete.
