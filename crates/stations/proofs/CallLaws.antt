@@ -1,6 +1,6 @@
 -- The tests of a call, one after the other, against what they come to.
 use Prim.Native.Nat.{ℕ, ◌+◌}
-use mathlib.Core.Path.{◌≡◌, refl, sym, ◌∙◌}
+use mathlib.Core.Path.{◌≡◌, refl, sym}
 use mathlib.Core.Bool.{Bool, true, false, ◌&&◌}
 use native.Mathlib.Omega.{arith}
 use lib.Dec.{leb}
@@ -17,32 +17,30 @@ module _ (c : Call) where
   unfolding lent
   lent_by a b t p q e = rw (sym p, sym q) e
 
-  module _ (own : ℕ) where
-    pub not_lent : lent c ≡ false → 21 ≡ call_refusal c own
-    unfolding call_refusal
-    not_lent e = rw e refl
+  pub not_lent : lent c ≡ false → 21 ≡ call_refusal c
+  unfolding call_refusal
+  not_lent e = rw e refl
 
-    pub not_sound : lent c ≡ true → path_sound c.asked c.path ≡ false → 26 ≡ call_refusal c own
-    unfolding call_refusal
-    not_sound e f = rw (e, f) refl
+  pub not_sound : lent c ≡ true → path_sound c.asked c.path ≡ false → 26 ≡ call_refusal c
+  unfolding call_refusal
+  not_sound e f = rw (e, f) refl
 
-    pub passed : lent c ≡ true → path_sound c.asked c.path ≡ true → own ≡ call_refusal c own
-    unfolding call_refusal
-    passed e f = rw (e, f) refl
+  pub passed : lent c ≡ true → path_sound c.asked c.path ≡ true → 0 ≡ call_refusal c
+  unfolding call_refusal
+  passed e f = rw (e, f) refl
 
-    pub record Passed : Type 0 where
-      pub lent : lent c ≡ true
-      pub path : path_sound c.asked c.path ≡ true
-      pub rest : own ≡ 0
+  pub record Passed : Type 0 where
+    pub lent : lent c ≡ true
+    pub path : path_sound c.asked c.path ≡ true
 
-    by_tests : (a b : Bool) → pick a (pick b own 26) 21 ≡ 0 → (a ≡ true) × (b ≡ true) × (own ≡ 0)
-    by_tests false b e = absurd (omega arith)
-    by_tests true false e = absurd (omega arith)
-    by_tests true true e = (refl, refl, e)
+  by_tests : (a b : Bool) → ◌≡◌ {A = ℕ} (pick a (pick b 0 26) 21) 0 → (a ≡ true) × (b ≡ true)
+  by_tests false b e = absurd (omega arith)
+  by_tests true false e = absurd (omega arith)
+  by_tests true true e = (refl, refl)
 
-    pub call_passed : call_refusal c own ≡ 0 → Passed
-    unfolding call_refusal
-    call_passed e = let t = by_tests (lent c) (path_sound c.asked c.path) e in record { lent = t.0; path = t.1; rest = t.2 }
+  pub call_passed : 0 ≡ call_refusal c → Passed
+  unfolding call_refusal
+  call_passed e = let t = by_tests (lent c) (path_sound c.asked c.path) (sym e) in record { lent = t.0; path = t.1 }
 
 module _ (asked : ℕ) (s : Drawn) where
   pub at_end : record_sound asked s ≡ true → at_last asked s ≡ true → 25 ≡ record_refusal asked s
@@ -61,10 +59,20 @@ module _ (asked : ℕ) (s : Drawn) where
   unfolding at_last
   last_is = refl
 
--- placing
-pub place_refusal_lem : (v : Vehicle) (c : Call) → place_refusal v c ≡ call_refusal c (vehicle_refusal v)
-unfolding place_refusal call_refusal vehicle_refusal
-place_refusal_lem v c = refl
+-- placing: the call's tests, then the vehicle's
+module _ (v : Vehicle) (c : Call) where
+  by_call : (a b : Bool) (own n : ℕ) → n ≡ pick a (pick b 0 26) 21 → (n ≡ 0 → ⊥) → pick a (pick b own 26) 21 ≡ n
+  by_call false b own n e h = sym e
+  by_call true false own n e h = sym e
+  by_call true true own n e h = absurd (h e)
+
+  pub place_by_call : (n : ℕ) → n ≡ call_refusal c → (n ≡ 0 → ⊥) → place_refusal v c ≡ n
+  unfolding place_refusal call_refusal
+  place_by_call n e h = by_call (lent c) (path_sound c.asked c.path) (pick (vehicle_sound v) 0 27) n e h
+
+  pub place_by_vehicle : 0 ≡ call_refusal c → place_refusal v c ≡ vehicle_refusal v
+  unfolding place_refusal vehicle_refusal
+  place_by_vehicle e = let p = call_passed c e in rw (p.lent, p.path) refl
 
 module _ (v : Vehicle) where
   pub vehicle_ready : vehicle_sound v ≡ true → 0 ≡ vehicle_refusal v
@@ -79,37 +87,42 @@ module _ (v : Vehicle) where
   vehicle_by true e = refl
   vehicle_by false e = absurd (omega arith)
 
-  pub vehicle_passed : vehicle_refusal v ≡ 0 → vehicle_sound v ≡ true
+  pub vehicle_passed : 0 ≡ vehicle_refusal v → vehicle_sound v ≡ true
   unfolding vehicle_refusal
-  vehicle_passed e = vehicle_by (vehicle_sound v) e
+  vehicle_passed e = vehicle_by (vehicle_sound v) (sym e)
 
 -- stepping
 module _ (s : Drawn) (c : Call) where
-  step_by : (a b r l : Bool) → ◌≡◌ {A = ℕ} (pick a (pick b (pick r (pick l 25 0) 27) 26) 21) 0 → (a ≡ true) × (b ≡ true) × (r ≡ true) × (l ≡ false)
-  step_by false b r l e = absurd (omega arith)
-  step_by true false r l e = absurd (omega arith)
-  step_by true true false l e = absurd (omega arith)
-  step_by true true true true e = absurd (omega arith)
-  step_by true true true false e = (refl, refl, refl, refl)
+  record_by : (r l : Bool) → ◌≡◌ {A = ℕ} (pick r (pick l 25 0) 27) 0 → (r ≡ true) × (l ≡ false)
+  record_by false l e = absurd (omega arith)
+  record_by true true e = absurd (omega arith)
+  record_by true false e = (refl, refl)
 
-  pub call_open : call_refusal c (record_refusal c.asked s) ≡ 0 → Open s c
-  unfolding call_refusal record_refusal
-  call_open e =
-      let t = step_by (lent c) (path_sound c.asked c.path) (record_sound c.asked s) (at_last c.asked s) e in
-      record { lent = t.0; path = t.1; rig = t.2; not_last = t.3 }
+  pub call_open : 0 ≡ call_refusal c → 0 ≡ record_refusal c.asked s → Open s c
+  unfolding record_refusal
+  call_open e f =
+      let t = record_by (record_sound c.asked s) (at_last c.asked s) (sym f) in
+      let p = call_passed c e in
+      record { lent = p.lent; path = p.path; rig = t.0; not_last = t.1 }
 
   pub step_open : Open s c → draw_step s c ≡ after_turning s (turning_of s c)
   unfolding draw_step
   step_open o = rw (o.lent, o.path, o.rig, o.not_last) refl
 
-  down_by : (a b r l : Bool) (n : ℕ) (x : Stepped) → pick a (pick b (pick r (pick l 25 0) 27) 26) 21 ≡ n → (n ≡ 0 → ⊥)
-      → pick a (pick b (pick r (pick l (turned_down s 25) x) (turned_down s 27)) (turned_down s 26)) (turned_down s 21) ≡ turned_down s n
-  down_by false b r l n x e h = rw (sym e) refl
-  down_by true false r l n x e h = rw (sym e) refl
-  down_by true true false l n x e h = rw (sym e) refl
-  down_by true true true true n x e h = rw (sym e) refl
-  down_by true true true false n x e h = absurd (h (sym e))
+  down_by : (a b : Bool) (n : ℕ) (x : Stepped) → n ≡ pick a (pick b 0 26) 21 → (n ≡ 0 → ⊥) → pick a (pick b x (turned_down s 26)) (turned_down s 21) ≡ turned_down s n
+  down_by false b n x e h = rw e refl
+  down_by true false n x e h = rw e refl
+  down_by true true n x e h = absurd (h e)
 
-  pub refused_draw : (n : ℕ) → call_refusal c (record_refusal c.asked s) ≡ n → (n ≡ 0 → ⊥) → draw_step s c ≡ turned_down s n
-  unfolding draw_step call_refusal record_refusal
-  refused_draw n e h = down_by (lent c) (path_sound c.asked c.path) (record_sound c.asked s) (at_last c.asked s) n _ e h
+  pub call_down : (n : ℕ) → n ≡ call_refusal c → (n ≡ 0 → ⊥) → draw_step s c ≡ turned_down s n
+  unfolding draw_step call_refusal
+  call_down n e h = down_by (lent c) (path_sound c.asked c.path) n _ e h
+
+  record_down_by : (r l : Bool) (n : ℕ) (x : Stepped) → n ≡ pick r (pick l 25 0) 27 → (n ≡ 0 → ⊥) → pick r (pick l (turned_down s 25) x) (turned_down s 27) ≡ turned_down s n
+  record_down_by false l n x e h = rw e refl
+  record_down_by true true n x e h = rw e refl
+  record_down_by true false n x e h = absurd (h e)
+
+  pub record_down : 0 ≡ call_refusal c → (n : ℕ) → n ≡ record_refusal c.asked s → (n ≡ 0 → ⊥) → draw_step s c ≡ turned_down s n
+  unfolding draw_step record_refusal
+  record_down z n e h = let p = call_passed c z in rw (p.lent, p.path) (record_down_by (record_sound c.asked s) (at_last c.asked s) n _ e h)

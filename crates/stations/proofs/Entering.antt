@@ -1,30 +1,29 @@
 -- What a call that passed the tests gives to those who measure and step.
 use Prim.Native.Nat.{ℕ, ◌+◌, ◌≤◌, ◌<◌}
 use mathlib.Core.Path.{◌≡◌, refl, sym, ◌∙◌, ap, ap₂, subst}
-use mathlib.Core.Bool.{true, false}
+use mathlib.Core.Bool.{true}
 use mathlib.Core.List.{List}
 use native.Mathlib.Omega.{arith}
-use lib.ListN.{length, get_or, take}
-use lib.Seq.{sets, get_or-take}
+use lib.ListN.{length, get_or, take, length-replicate}
+use lib.Seq.{sets, length-sets}
+use Rattle.std.proofs.lemmas.List.{length-take-le}
 use Rattle.plane.specs.declared.Vec2.{Vec2}
 use Rattle.job.specs.declared.Vehicle.{Vehicle}
 use Rattle.path.specs.Laying.{PathRuns}
 use Rattle.walk.specs.declared.Walk.{Walk}
-use Rattle.walk.specs.declared.Advanced.{Advanced}
 use Rattle.walk.specs.Drawn.{Drawn, view, Call, station_at}
 use Rattle.walk.specs.Tests.{path_sound, lent}
 use Rattle.walk.specs.Rig.{Stepped, zero_vector, turning_of, after_turning, draw_step}
 use Rattle.walk.specs.Units.{Turning, turned, stopped}
 use Rattle.walk.specs.Rigid.{Keeping}
-use Rattle.walk.specs.Moving.{AdvanceEnsures}
 use Rattle.walk.proofs.PathTests.{path_station}
 use Rattle.walk.proofs.RecordTests.{lent_call, sound_record, not_last_lem}
 use Rattle.walk.proofs.StepKept.{step_rule_lem}
-use Rattle.marks.specs.Count.{point_count}
+use Rattle.marks.specs.Count.{point_capacity, point_count}
 use Rattle.marks.proofs.CountLaws.{count_fits, some_point, count_even}
 use Rattle.points.specs.Points.{no_points, rig_points}
 use Rattle.points.specs.Requires.{RigAt}
-use Rattle.points.proofs.PointLaws.{points_sized, points_taken}
+use Rattle.points.proofs.PointLaws.{points_count, points_sized, points_taken}
 use Rattle.points.proofs.SoundRig.{sound_rig}
 use Rattle.reaches.specs.Cells.{Reaches}
 use Rattle.reaches.specs.Inner.{Room, SizedPoint, Crossable}
@@ -36,32 +35,37 @@ use Rattle.stations.proofs.RigLaws.{sound_keeping, keeping_ready}
 pub room_of : (asked : ℕ) (p : PathRuns) (r : Reaches) → lent (call_of asked p r) ≡ true → Room asked r
 room_of asked p r e = let l = (lent_call (call_of asked p r) e).1 in record { left = l.left; right = l.right; marks = l.marks }
 
--- the points of a rig, at the start of an array, as those who measure ask them
-sized : {v : Vehicle} {ds : List Vec2} {f : Vec2} → RigAt v ds f → (n : ℕ) → point_count v ≡ n → (k : ℕ) → k < n → SizedPoint (get_or (sets no_points 0 (rig_points v ds f)) k zero_vector)
-sized {v} {ds} {f} a n e k h =
-    let taken = points_taken v a.rig.most ds f in
-    let p = points_sized a k in
-    let same : get_or (sets no_points 0 (rig_points v ds f)) k zero_vector ≡ get_or (rig_points v ds f) k zero_vector =
-    sym (get_or-take (point_count v) (sets no_points 0 (rig_points v ds f)) k zero_vector (rw e h)) ∙ ap (λ (l : List Vec2). get_or l k zero_vector) taken in
-    rw same (record { x = p.x; y = p.y })
+-- the points of a rig, as those who measure ask them
+sized : {v : Vehicle} {ds : List Vec2} {f : Vec2} → RigAt v ds f → (k : ℕ) → SizedPoint (get_or (rig_points v ds f) k zero_vector)
+sized a k = let p = points_sized a k in record { x = p.x; y = p.y }
 
--- taken from an array as many as the vehicle has
-pub taken_as : (v : Vehicle) → v.count ≤ 4 → (ds : List Vec2) (f : Vec2) {n : ℕ} {l : List Vec2} → n ≡ point_count v → l ≡ sets no_points 0 (rig_points v ds f) → take n l ≡ rig_points v ds f
-taken_as v m ds f e g = ap₂ take e g ∙ points_taken v m ds f
+-- as many of an array of points as the vehicle has
+module _ (v : Vehicle) (m : v.count ≤ 4) (ds : List Vec2) (f : Vec2) {n : ℕ} {l : List Vec2} (e : n ≡ point_count v) (g : l ≡ sets no_points 0 (rig_points v ds f)) where
+  pub points_fit : n ≤ length l
+  points_fit = let k = count_fits v m in rw (e, g) (omega (arith, length-sets no_points 0 (rig_points v ds f), length-replicate point_capacity zero_vector))
+
+  pub taken_count : n ≡ length (take n l)
+  taken_count = sym (length-take-le n l points_fit)
+
+  pub taken_as : take n l ≡ rig_points v ds f
+  taken_as = ap₂ take e g ∙ points_taken v m ds f
 
 pub crossable : (w w' : Walk) (old new : Vec2) (asked : ℕ) (p : PathRuns) (r : Reaches) → Enterable w w' old new (call_of asked p r)
-    → Crossable asked p (point_count w.vehicle) (sets no_points 0 (rig_points w.vehicle w.d old)) (sets no_points 0 (rig_points w'.vehicle w'.d new)) r
+    → Crossable asked p (length (rig_points w.vehicle w.d old)) (rig_points w.vehicle w.d old) (rig_points w'.vehicle w'.d new) r
 crossable w w' old new asked p r e =
-    record {
+    let olds = points_count w.vehicle e.before.rig.most w.d old in
+    let news = points_count w'.vehicle e.after.rig.most w'.d new in
+    rw olds (record {
       lent = (lent_call (call_of asked p r) e.lent).0.room;
       room = room_of asked p r e.lent;
       stations = λ i h. path_station p asked i e.path h;
       some = some_point w.vehicle;
       even = count_even w.vehicle;
       points = record { most = count_fits w.vehicle e.before.rig.most };
-      old = sized e.before (point_count w.vehicle) refl;
-      new = sized e.after (point_count w.vehicle) (ap point_count e.vehicle);
-    }
+      both = olds ∙ sym (news ∙ ap point_count e.vehicle);
+      old = λ k h. sized e.before k;
+      new = λ k h. sized e.after k;
+    })
 
 -- a rig that has its lengths, at a station of a sound path
 pub rig_at : (w : Walk) (p : PathRuns) (asked i : ℕ) → length w.vehicle.units ≡ 4 → Keeping (view w) → path_sound asked p ≡ true → i < asked → RigAt w.vehicle w.d (station_at p i).position

@@ -3,5 +3,4 @@ pub mod CallLaws
 pub mod PlaceLaws
 pub mod StepLaws
 pub mod Entering
-pub mod Tied
 pub mod Witnesses

@@ -1,12 +1,12 @@
 -- What a rig has that passed the tests, in the forms that stepping and measuring ask.
-use Prim.Native.Nat.{ℕ, zero, suc, ◌+◌, ◌≤◌, ◌<◌}
-use mathlib.Core.Path.{◌≡◌, refl, sym, ◌∙◌, ap, subst}
-use mathlib.Core.Bool.{Bool, true, false, ◌&&◌}
+use Prim.Native.Nat.{ℕ, zero, suc, ◌<◌}
+use mathlib.Core.Path.{◌≡◌, subst}
+use mathlib.Core.Bool.{true}
 use mathlib.Core.List.{List, [], ◌∷◌}
 use native.Mathlib.Omega.{arith}
-use lib.ListN.{length, take, get_or, length-take}
+use lib.ListN.{length, get_or, length-take}
 use lib.Seq.{get_or-take}
-use lib.IntN.{ℤ, pos, ◌*ℤ◌}
+use lib.IntN.{pos, ◌*ℤ◌}
 use Rattle.number.proofs.FieldCodec.{both}
 use Rattle.plane.specs.declared.Vec2.{Vec2}
 use Rattle.plane.specs.Length.{has_length, Near}
@@ -20,7 +20,7 @@ use Rattle.walk.specs.Units.{wheelbase_of}
 use Rattle.walk.specs.Rig.{zero_vector}
 use Rattle.walk.specs.Rigid.{AllOfLength, Keeping}
 use Rattle.walk.specs.Inner.{RigReady}
-use Rattle.walk.proofs.VehicleTests.{units_counted, units_lengths, unit_ready_at}
+use Rattle.walk.proofs.VehicleTests.{units_counted, unit_ready_at}
 use Rattle.walk.proofs.RecordTests.{sound_record}
 
 -- lengths, from the test of the vectors

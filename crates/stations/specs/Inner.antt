@@ -4,19 +4,13 @@ use Rattle.number.specs.Read.{pick}
 use Rattle.plane.specs.declared.Vec2.{Vec2}
 use Rattle.job.specs.declared.Vehicle.{Vehicle}
 use Rattle.walk.specs.declared.Walk.{Walk}
-use Rattle.walk.specs.declared.Advanced.{Advanced}
-use Rattle.walk.specs.Drawn.{Drawn, view, Call, made, outcome_of}
+use Rattle.walk.specs.Drawn.{Drawn, Call}
 use Rattle.walk.specs.Tests.{lent, path_sound, vehicle_sound, record_sound, at_last}
-use Rattle.walk.specs.Rig.{turning_of, after_turning}
-use Rattle.points.specs.Points.{rig_points}
 use Rattle.points.specs.Requires.{RigAt}
-use Rattle.reaches.specs.Cells.{Reaches}
-use Rattle.reaches.specs.Crossing.{crossed}
-use Rattle.stations.specs.Stepping.{points_at, if_made}
 
--- 21, then 26, then what refuses the rest of a call's arguments; 0 for none
-unfoldable pub call_refusal : Call → ℕ → ℕ
-call_refusal c own = pick (lent c) (pick (path_sound c.asked c.path) own 26) 21
+-- 21, then 26; 0 for none
+unfoldable pub call_refusal : Call → ℕ
+call_refusal c = pick (lent c) (pick (path_sound c.asked c.path) 0 26) 21
 
 -- 27, of a placement
 unfoldable pub vehicle_refusal : Vehicle → ℕ

@@ -1,5 +1,7 @@
 -- Placing a walk (01, "Stations and the widest place", "Why a walk is turned down": "Placement tests 21, 26, 27").
-use Rattle.std.specs.Prelude.{ℕ, zero, suc, ◌≡◌}
+use Rattle.std.specs.Prelude.{ℕ, zero, suc, ◌≡◌, Result, Ok, Err}
+use Rattle.refusal.specs.Numbers.{number_of}
+use Rattle.refusal.specs.declared.Fault.{Fault}
 use Rattle.number.specs.Read.{pick}
 use Rattle.plane.specs.declared.Vec2.{Vec2}
 use Rattle.job.specs.declared.Vehicle.{Vehicle}
@@ -9,13 +11,25 @@ use Rattle.walk.specs.Drawn.{view, Call, station_at}
 use Rattle.walk.specs.Tests.{lent, path_sound, vehicle_sound}
 use Rattle.walk.specs.Rig.{drawn_start}
 use Rattle.reaches.specs.Cells.{Reaches, lengths_of, cleared}
-use Rattle.stations.specs.declared.PlaceAnswer.{PlaceAnswer}
-use Rattle.stations.specs.declared.PlaceAnswer.TheVariants as P
-use Rattle.stations.specs.declared.Placing.{Placing}
 
 -- what a call lends: the stations asked for, the path's four runs and the lengths of the other three
 abbrev pub call_of : ℕ → PathRuns → Reaches → Call
 call_of asked path r = record { asked = asked; path = path; reaches = lengths_of r }
+
+-- what placing answers: that the vehicle is placed, or a refusal's number
+pub data PlaceAnswer : Type 0 where
+  placed : PlaceAnswer
+  refused : ℕ → PlaceAnswer
+
+-- the same, of the program's answer
+abbrev pub as_placed : Result (Unit {0}) Fault → PlaceAnswer
+as_placed (Ok u) = placed
+as_placed (Err f) = refused (number_of f)
+
+-- what placing answers, and the record that it leaves
+pub record Placing : Type 0 where
+  pub answer : PlaceAnswer
+  pub walk : Walk
 
 -- the refusal, 0 for none
 unfoldable pub place_refusal : Vehicle → Call → ℕ
@@ -27,8 +41,8 @@ place_refusal v c =
     21
 
 abbrev pub place_answer : ℕ → PlaceAnswer
-place_answer zero = P.Placed
-place_answer (suc n) = P.Refused (suc n)
+place_answer zero = placed
+place_answer (suc n) = refused (suc n)
 
 -- one thing where nothing is refused, another where something is
 abbrev pub unless_refused : {A : Type 0} → ℕ → A → A → A

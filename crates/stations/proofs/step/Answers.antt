@@ -1,45 +1,19 @@
--- `stations::step` meets its contract.
-use Prim.Native.Nat.{ℕ}
-use mathlib.Core.Path.{◌≡◌, sym, ◌∙◌, ap}
-use Rattle.path.specs.Laying.{PathRuns, path_runs}
-use Rattle.reaches.specs.Cells.{Reaches, reach_runs}
-use Rattle.walk.specs.Drawn.{Call, view}
-use Rattle.stations.specs.Placing.{call_of}
-use Rattle.stations.specs.Inner.{call_refusal, record_refusal, Open}
-use Rattle.stations.proofs.CallLaws.{call_open}
+-- `stations::step` meets its contract: refused before the units turn, or the step of an open call.
+use Rattle.job.proofs.FaultLaws.{numbered}
+use Rattle.walk.specs.Drawn.{view}
+use Rattle.reaches.specs.Lent.{room_reaches}
+use Rattle.stations.proofs.CallLaws.{call_down, record_down, call_open}
 use Rattle.stations.proofs.StepLaws.{step_refused}
 use Rattle.stations.proofs.step.Goals as goal
-use Rattle.stations.proofs.step.Goals.{Start}
-use Rattle.stations.proofs.step.Lts as lts
-use Rattle.stations.proofs.step.Reads as reads
-use Rattle.stations.proofs.step.Tie as tie
 
--- the steps of the code that the lemmas below speak of
-abbrev After-call_refusal-refused : Type 0
-After-call_refusal-refused = lts.After-call_refusal tie.the-claims reads.Pre reads.Post
+pub returns-in-Err-clause-stepped : goal.returns-in-Err-clause-stepped
+returns-in-Err-clause-stepped c =
+    step_refused c.args.w.now _ (room_reaches c.args.room.now) _ (call_down (view c.args.w.now) _ _ c.in-Err.ensures (numbered c.in-Err.fault))
 
-abbrev Else-refused-ne0 : Type 0
-Else-refused-ne0 = lts.Else1 tie.the-claims reads.Pre reads.Post
-
-abbrev path : Start → PathRuns
-path s = path_runs s.args.xs.now s.args.ys.now s.args.gxs.now s.args.gys.now
-
-abbrev runs : Start → Reaches
-runs s = reach_runs s.args.left.now s.args.right.now s.args.marks.now
-
-abbrev call : Start → Call
-call s = call_of s.args.asked (path s) (runs s)
-
-refusal : (c : After-call_refusal-refused) → let s = c.before.before.before in call_refusal (call s) (record_refusal s.args.asked (view s.args.w)) ≡ c.call_refusal-refused.result
-refusal c =
-    let s = c.before.before.before in
-    sym (c.call_refusal-refused.ensures ∙ ap (λ (n : ℕ). call_refusal (call s) n) c.record_refusal-own.ensures)
-
-is_open : (c : Else-refused-ne0) → let s = c.before.before.before.before in Open (view s.args.w) (call s)
-is_open c = let s = c.before.before.before.before in call_open (view s.args.w) (call s) (refusal c.before ∙ c.if-refused-ne0.false)
-
-pub returns-then-refused-ne0 : goal.returns-then-refused-ne0
-returns-then-refused-ne0 c = let s = c.before.before.before.before.before in step_refused s.args.w (call s) (runs s) _ (refusal c.before.before) c.if-refused-ne0.true
+pub returns-in-Err-record_tested-clause-stepped : goal.returns-in-Err-record_tested-clause-stepped
+returns-in-Err-record_tested-clause-stepped c =
+    step_refused c.args.w.now _ (room_reaches c.args.room.now) _
+    (record_down (view c.args.w.now) _ c.in_default.ensures _ c.in-Err-record_tested.ensures (numbered c.in-Err-record_tested.fault))
 
 pub advance_and_enter-requires : goal.advance_and_enter-requires
-advance_and_enter-requires c = is_open c.before.before.before
+advance_and_enter-requires c = call_open (view c.args.w.now) _ c.in_default.ensures c.in_default-record_tested.ensures
