@@ -3,5 +3,4 @@ pub mod WalkingLaws
 pub mod CourseLaws
 pub mod OverLaws
 pub mod RunLaws
-pub mod Tied
 pub mod Witnesses

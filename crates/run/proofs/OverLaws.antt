@@ -1,5 +1,5 @@
 -- A vehicle on a laid path, from its placement to what its walk came to.
-use Prim.Native.Nat.{ℕ, ◌≤◌}
+use Prim.Native.Nat.{ℕ, ◌≤◌, ◌<◌}
 use mathlib.Core.Path.{◌≡◌, sym, ◌∙◌, ap, subst}
 use mathlib.Core.Bool.{true}
 use lib.IntN.{pos, ◌*ℤ◌}
@@ -7,7 +7,7 @@ use Rattle.plane.specs.Length.{heading_length, Near}
 use Rattle.job.specs.declared.Vehicle.{Vehicle}
 use Rattle.path.specs.Laying.{PathRuns}
 use Rattle.walk.specs.declared.Walk.{Walk}
-use Rattle.walk.specs.declared.Advanced.{Advanced}
+use Rattle.walk.specs.Moving.{Advanced}
 use Rattle.walk.specs.Drawn.{Drawn, view, station_at}
 use Rattle.walk.specs.Tests.{lent, record_sound}
 use Rattle.walk.specs.Rig.{drawn_start}
@@ -18,9 +18,8 @@ use Rattle.walk.proofs.SoundKept.{start_sound}
 use Rattle.reaches.specs.Cells.{Reaches, cleared_cell, cleared}
 use Rattle.reaches.proofs.CellLaws.{SameLengths, lengths_of_lem}
 use Rattle.stations.specs.Placing.{call_of}
-use Rattle.run.specs.declared.Ran.{Ran}
 use Rattle.run.specs.Walking.{Course, walk_to_end, steps_left, course_of, Going}
-use Rattle.run.specs.Run.{walk_over, ran_over, Runnable, Tellable, OverEnsures}
+use Rattle.run.specs.Run.{Runnable, Tellable}
 use Rattle.run.proofs.WalkingLaws.{same_call}
 use Rattle.run.proofs.CourseLaws.{course_vehicle, ends_on_path, course_lengths}
 
@@ -47,20 +46,16 @@ module _ (asked : ℕ) (path : PathRuns) (v : Vehicle) (r : Reaches) (y : Runnab
 
     -- walked to the end
     module _ (end : Advanced) (after : Reaches) (walked : course_of end after ≡ walk_to_end asked path (view w) runs) where
+      pub end_on_path : end.walk.station < asked
+      end_on_path = rw (ap (λ (c : Course). c.state.station) walked) (ends_on_path asked path (view w) runs (sound_record asked (view w) sound_start).station)
+
       pub end_tellable : Tellable end.walk.vehicle end.walk.station (call_of asked path after)
       end_tellable =
-          let k = ends_on_path asked path (view w) runs (sound_record asked (view w) sound_start).station in
           let l = subst (λ (x : Reaches). SameLengths x runs) (sym (ap (λ (c : Course). c.runs) walked)) (course_lengths asked path (steps_left asked (view w)) (view w) runs) in
           let m = cleared_lengths in
           let same = ap (λ (c : Course). c.state.vehicle) walked ∙ course_vehicle asked path (steps_left asked (view w)) (view w) runs ∙ ap (λ (s : Drawn). s.vehicle) placed in
           record {
             units = subst (λ (x : Vehicle). x.count ≤ 4) (sym same) (units_counted v y.vehicle).1;
             lent = lent_still after (record { left = l.left ∙ m.left; right = l.right ∙ m.right; marks = l.marks ∙ m.marks });
-            station = rw (ap (λ (c : Course). c.state.station) walked) k;
+            station = end_on_path;
           }
-
-      pub told_so : (answer : Ran) → answer ≡ ran_over asked path (course_of end after) → OverEnsures asked path v r answer after
-      told_so answer e =
-          let f : Drawn → Reaches → Course = λ s x. walk_to_end asked path s x in
-          let whole : course_of end after ≡ walk_over asked path v r = walked ∙ ap (λ (s : Drawn). f s runs) placed ∙ ap (f (drawn_start v (station_at path 0).heading)) clear in
-          record { answered = e ∙ ap (ran_over asked path) whole; reaches = ap (λ (c : Course). c.runs) whole }

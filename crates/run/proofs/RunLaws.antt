@@ -1,12 +1,10 @@
 -- The answers of a whole job: a fault, a run too short, and a walk over the path that was laid.
 use Prim.Native.Nat.{ℕ, zero, suc, ◌+◌, ◌<◌}
 use mathlib.Core.Path.{◌≡◌, refl, sym, ◌∙◌, ap, subst, subst₂}
-use mathlib.Core.List.{List}
 use mathlib.Core.Bool.{Bool, true, false, ◌&&◌}
 use native.Mathlib.Omega.{arith}
 use borrow.Author.Tests.{eq-eqb, ne_eqb, eqb-true, le-leb}
 use lib.Dec.{eqb}
-use lib.IntN.{ℤ}
 use lib.ListN.{length, take}
 use Rattle.number.specs.Read.{pick}
 use Rattle.number.proofs.FieldCodec.{and}
@@ -18,7 +16,7 @@ use Rattle.std.specs.Prelude.{Ok, Err}
 use Rattle.refusal.specs.Numbers.{Answer, answered, refused as refused_by_number, number_of}
 use Rattle.refusal.specs.declared.Fault.{Fault}
 use Rattle.path.specs.Stations.{step_total, stations}
-use Rattle.path.specs.Laying.{PathRuns, path_runs, room_for, written, lay_answer, laid_runs, LayEnsures}
+use Rattle.path.specs.Laying.{PathRuns, room_for, written, lay_answer, laid_runs, LayEnsures}
 use Rattle.path.specs.LaidPath.{job_station}
 use Rattle.path.proofs.JobLaws.{stations_answered, stations_count}
 use Rattle.path.proofs.LayLaws.{room_for_fewer}
@@ -29,8 +27,8 @@ use Rattle.walk.specs.Tests.{lent, reaches_lent, station_sound, vehicle_sound}
 use Rattle.walk.proofs.PathTests.{passes, all_sound}
 use Rattle.reaches.specs.Cells.{Reaches, lengths_of}
 use Rattle.stations.specs.Placing.{call_of, unless_refused}
-use Rattle.run.specs.declared.Ran.{Ran}
-use Rattle.run.specs.declared.Ran.TheVariants as R
+use Rattle.run.specs.Ran.{Ran}
+use Rattle.run.specs.Ran as R
 use Rattle.run.specs.Walking.{Course}
 use Rattle.run.specs.Run.{ran_over, walk_over, run_refusal, ran_answer, job_path, job_course, RunEnsures, Runnable, OverEnsures}
 
@@ -38,15 +36,11 @@ use Rattle.run.specs.Run.{ran_over, walk_over, run_refusal, ran_answer, job_path
 pub counted : (j : Job) (n : ℕ) → n ≡ step_total j.step 0 (take j.count j.elements) → n + 1 ≡ length (stations j)
 counted j n e = ap (λ (m : ℕ). m + 1) e ∙ sym (stations_count j)
 
--- the caller's runs hold what the room held
-pub in_runs : (P : PathRuns → Type 0) {xs ys gxs gys xs' ys' gxs' gys' : List ℤ} → P (path_runs xs ys gxs gys) → xs ≡ xs' → ys ≡ ys' → gxs ≡ gxs' → gys ≡ gys' → P (path_runs xs' ys' gxs' gys')
-in_runs P h a b c d = rw (sym a, sym b, sym c, sym d) h
-
 -- refused: nothing is written
-refused_by : (j : Job) (p : PathRuns) (r : Reaches) (n : ℕ) → run_refusal j p r ≡ suc n → RunEnsures j p r (R.Refused (suc n)) p r
+refused_by : (j : Job) (p : PathRuns) (r : Reaches) (n : ℕ) → run_refusal j p r ≡ suc n → RunEnsures j p r (R.refused (suc n)) p r
 refused_by j p r n e = record { answered = rw e refl; path = rw e refl; reaches = rw e refl }
 
-refused_so : (j : Job) (p : PathRuns) (r : Reaches) (n : ℕ) → run_refusal j p r ≡ n → (n ≡ 0 → ⊥) → RunEnsures j p r (R.Refused n) p r
+refused_so : (j : Job) (p : PathRuns) (r : Reaches) (n : ℕ) → run_refusal j p r ≡ n → (n ≡ 0 → ⊥) → RunEnsures j p r (R.refused n) p r
 refused_so j p r zero e h = absurd (h refl)
 refused_so j p r (suc n) e h = refused_by j p r n e
 
@@ -54,7 +48,7 @@ module _ (j : Job) (p : PathRuns) (r : Reaches) where
   abbrev n : ℕ
   n = length (stations j)
 
-  pub run_fault : (judge j ≡ 0 → ⊥) → RunEnsures j p r (R.Refused (judge j)) p r
+  pub run_fault : (judge j ≡ 0 → ⊥) → RunEnsures j p r (R.refused (judge j)) p r
   unfolding run_refusal
   run_fault h = refused_so j p r (judge j) (let e = ne_eqb (judge j) 0 h in rw e refl) h
 
@@ -64,7 +58,7 @@ module _ (j : Job) (p : PathRuns) (r : Reaches) where
   no_room false b h = refl
 
   module _ (f : judge j ≡ 0) where
-    refused_21 : (room_for n p ≡ true → reaches_lent n (lengths_of r) ≡ true → ⊥) → RunEnsures j p r (R.Refused 21) p r
+    refused_21 : (room_for n p ≡ true → reaches_lent n (lengths_of r) ≡ true → ⊥) → RunEnsures j p r (R.refused 21) p r
     unfolding run_refusal
     refused_21 h =
         let z = eq-eqb (judge j) 0 f in
@@ -73,7 +67,7 @@ module _ (j : Job) (p : PathRuns) (r : Reaches) where
     true_false : {b : Bool} → b ≡ true → b ≡ false → ⊥
     true_false t e = let z : true ≡ false = sym t ∙ e in absurd (let y : ◌≡◌ {A = ℕ} 0 1 = cc in omega arith)
 
-    pub reaches_short : reaches_lent n (lengths_of r) ≡ false → RunEnsures j p r (R.Refused 21) p r
+    pub reaches_short : reaches_lent n (lengths_of r) ≡ false → RunEnsures j p r (R.refused 21) p r
     reaches_short e = refused_21 (λ a b. true_false b e)
 
     -- laying refuses a job without a fault by 21 alone
@@ -82,12 +76,12 @@ module _ (j : Job) (p : PathRuns) (r : Reaches) where
     laid_by true false m k t e = (cc, refl)
     laid_by false b m k t e = absurd (let z : ◌≡◌ {A = ℕ} 0 1 = cc in omega arith)
 
-    pub path_short : (fault : Fault) (q : PathRuns) → LayEnsures j p (Err fault) q → RunEnsures j p r (R.Refused (number_of fault)) q r
+    pub path_short : (fault : Fault) (q : PathRuns) → LayEnsures j p (Err fault) q → RunEnsures j p r (R.refused (number_of fault)) q r
     unfolding lay_answer
     path_short fault q t =
         let s = laid_by (eqb (judge j) 0) (room_for n p) (number_of fault) n (eq-eqb (judge j) 0 f) t.answered in
         let kept : q ≡ p = t.runs ∙ ap (λ (a : Answer ℕ). laid_runs a j p) (sym t.answered) in
-        subst₂ (λ (k : ℕ) (x : PathRuns). RunEnsures j p r (R.Refused k) x r) (sym s.0) (sym kept) (refused_21 (λ a b. true_false a s.1))
+        subst₂ (λ (k : ℕ) (x : PathRuns). RunEnsures j p r (R.refused k) x r) (sym s.0) (sym kept) (refused_21 (λ a b. true_false a s.1))
 
 pub all_passed : (j : Job) (p : PathRuns) (r : Reaches) → judge j ≡ 0 → room_for (length (stations j)) p ≡ true → reaches_lent (length (stations j)) (lengths_of r) ≡ true → run_refusal j p r ≡ 0
 unfolding run_refusal

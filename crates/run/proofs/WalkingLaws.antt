@@ -1,13 +1,13 @@
 -- The walk to the end of a path, a step at a time: a made step leaves a walk that can go on, a refused one ends it.
 use Prim.Native.Nat.{ℕ, suc, ◌+◌, ◌-◌, ◌≤◌, ◌<◌}
 use mathlib.Core.Path.{◌≡◌, refl, sym, ◌∙◌, ap, subst}
-use mathlib.Core.Bool.{true, false}
+use mathlib.Core.Bool.{true}
 use native.Mathlib.Omega.{arith}
 use borrow.Author.Tests.{lt-leb}
 use Rattle.path.specs.Laying.{PathRuns}
 use Rattle.walk.specs.declared.Walk.{Walk}
-use Rattle.walk.specs.declared.Advanced.{Advanced}
-use Rattle.walk.specs.Drawn.{Drawn, view, Call, Outcome, made, refused, refused_at, outcome_of}
+use Rattle.walk.specs.Moving.{Advanced}
+use Rattle.walk.specs.Drawn.{Drawn, view, Call, Outcome, made, refused, refused_at}
 use Rattle.walk.specs.Tests.{record_sound}
 use Rattle.walk.specs.Units.{Turning, turned, stopped}
 use Rattle.walk.specs.Rig.{Stepped, turning_of, after_turning, draw_step}
@@ -21,7 +21,7 @@ use Rattle.stations.specs.Stepping.{points_at, if_made, StepEnsures}
 use Rattle.stations.specs.Inner.{Open}
 use Rattle.stations.proofs.CallLaws.{last_is, step_open}
 use Rattle.stations.proofs.StepLaws.{unit_not_made}
-use Rattle.run.specs.Walking.{Course, walk_on, steps_left, walk_to_end, course_of, is_made, Going}
+use Rattle.run.specs.Walking.{Course, walk_on, steps_left, walk_to_end, course_of, Going}
 
 -- a call is the same where the runs have the same lengths
 pub same_call : (asked : ℕ) (path : PathRuns) {a b : Reaches} → SameLengths a b → call_of asked path a ≡ call_of asked path b
@@ -47,15 +47,6 @@ made_step_lem s c o m =
     let e = step_open s c o in
     rw e (after_made s c o (turning_of s c) refl (sym (ap (λ (t : Stepped). t.answer) e) ∙ m))
 
--- the answer, as the program tests it
-pub made_by : (o : Outcome) → is_made o ≡ true → o ≡ made
-made_by made e = refl
-made_by (refused n) e = absurd (let z : ◌≡◌ {A = ℕ} 0 1 = cc in omega arith)
-made_by (refused_at n u) e = absurd (let z : ◌≡◌ {A = ℕ} 0 1 = cc in omega arith)
-
-pub not_made_by : (o : Outcome) → is_made o ≡ false → o ≡ made → ⊥
-not_made_by o e m = let z : true ≡ false = sym (ap is_made m) ∙ e in absurd (let y : ◌≡◌ {A = ℕ} 0 1 = cc in omega arith)
-
 -- the walk, by how its next step goes
 module _ (asked : ℕ) (path : PathRuns) where
   pub at_end : (s : Drawn) (r : Reaches) → asked ≤ s.station + 1 → walk_to_end asked path s r ≡ record { answer = made; state = s; runs = r }
@@ -74,7 +65,7 @@ module _ (asked : ℕ) (path : PathRuns) where
     abbrev c : Call
     c = call_of asked path r
 
-    drawn_answer : outcome_of res.answer ≡ (draw_step (view w) c).answer
+    drawn_answer : res.answer ≡ (draw_step (view w) c).answer
     drawn_answer = ap (λ (t : Stepped). t.answer) k.stepped
 
     drawn_state : view res.walk ≡ (draw_step (view w) c).state
@@ -95,9 +86,9 @@ module _ (asked : ℕ) (path : PathRuns) where
     left_alone (refused m) x y a e n = (rw (← e) refl, rw (← e) refl)
     left_alone (refused_at m u) x y a e n = (rw (← e) refl, rw (← e) refl)
 
-    pub stopped_here : (outcome_of res.answer ≡ made → ⊥) → course_of res after ≡ walk_to_end asked path (view w) r
+    pub stopped_here : (res.answer ≡ made → ⊥) → course_of res after ≡ walk_to_end asked path (view w) r
     stopped_here n =
-        let p = left_alone (outcome_of res.answer) _ (record { answer = (draw_step (view w) c).answer; state = (draw_step (view w) c).state; runs = r }) _ drawn_answer n in
+        let p = left_alone (res.answer) _ (record { answer = (draw_step (view w) c).answer; state = (draw_step (view w) c).state; runs = r }) _ drawn_answer n in
         let a = drawn_answer in
         let s = drawn_state in
         let q = k.runs ∙ p.1 in
@@ -105,7 +96,7 @@ module _ (asked : ℕ) (path : PathRuns) where
         e ∙ sym (next_step_lem (view w) r h ∙ p.0)
 
     -- made
-    module _ (m : outcome_of res.answer ≡ made) where
+    module _ (m : res.answer ≡ made) where
       is_made_lem : (draw_step (view w) c).answer ≡ made
       is_made_lem = sym drawn_answer ∙ m
 

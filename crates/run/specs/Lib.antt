@@ -1,3 +1,5 @@
 pub mod Walking
+pub mod Stops
+pub mod Ran
 pub mod Run
 pub mod Worked

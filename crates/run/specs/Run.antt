@@ -14,8 +14,8 @@ use Rattle.reaches.specs.Cells.{Reaches, lengths_of, cleared}
 use Rattle.reaches.specs.Widest.{widest_among}
 use Rattle.stations.specs.Placing.{unless_refused}
 use Rattle.run.specs.declared.Finish.{Finish}
-use Rattle.run.specs.declared.Ran.{Ran}
-use Rattle.run.specs.declared.Ran.TheVariants as R
+use Rattle.run.specs.Ran.{Ran}
+use Rattle.run.specs.Ran as R
 use Rattle.run.specs.Walking.{Course, walk_to_end}
 
 -- a vehicle placed on a path and stepped to its end
@@ -28,9 +28,9 @@ finish_at v station asked path r = record { steps = station; widest = widest_amo
 
 -- stopped: the number, and the unit and the step counted from 1; a refusal that names no unit, which no laid path meets, would name unit 0
 abbrev pub ran_by : ℕ → PathRuns → Outcome → Drawn → Reaches → Ran
-ran_by asked path made s r = R.Finished (finish_at s.vehicle s.station asked path r)
-ran_by asked path (refused n) s r = R.Stopped n 0 (s.station + 1)
-ran_by asked path (refused_at n u) s r = R.Stopped n u (s.station + 1)
+ran_by asked path made s r = R.finished (finish_at s.vehicle s.station asked path r)
+ran_by asked path (refused n) s r = R.stopped n 0 (s.station + 1)
+ran_by asked path (refused_at n u) s r = R.stopped n u (s.station + 1)
 
 abbrev pub ran_over : ℕ → PathRuns → Course → Ran
 ran_over asked path c = ran_by asked path c.answer c.state c.runs
@@ -44,7 +44,7 @@ run_refusal j p r =
 
 abbrev pub ran_answer : ℕ → Ran → Ran
 ran_answer zero a = a
-ran_answer (suc n) a = R.Refused (suc n)
+ran_answer (suc n) a = R.refused (suc n)
 
 -- the walk of a job over its own path
 abbrev pub job_path : Job → PathRuns → PathRuns

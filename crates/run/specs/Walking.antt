@@ -1,8 +1,8 @@
 -- A walk from where it stands to the end of its path: step calls, each handed the runs that the one before left (01, "Drawing the units", "Stations and the widest place").
-use Rattle.std.specs.Prelude.{ℕ, zero, suc, ◌+◌, ◌-◌, ◌≡◌, Bool, true, false}
+use Rattle.std.specs.Prelude.{ℕ, zero, suc, ◌+◌, ◌-◌, ◌≡◌, true}
 use Rattle.path.specs.Laying.{PathRuns}
-use Rattle.walk.specs.declared.Advanced.{Advanced}
-use Rattle.walk.specs.Drawn.{Drawn, view, Call, Outcome, made, refused, refused_at, outcome_of}
+use Rattle.walk.specs.Moving.{Advanced}
+use Rattle.walk.specs.Drawn.{Drawn, view, Call, Outcome, made}
 use Rattle.walk.specs.Tests.{lent, path_sound, record_sound}
 use Rattle.walk.specs.Rig.{draw_step}
 use Rattle.reaches.specs.Cells.{Reaches}
@@ -35,12 +35,7 @@ walk_to_end asked path s r = walk_on (steps_left asked s) asked path s r
 
 -- the same, of the program's answer
 abbrev pub course_of : Advanced → Reaches → Course
-course_of a r = record { answer = outcome_of a.answer; state = view a.walk; runs = r }
-
-abbrev pub is_made : Outcome → Bool
-is_made made = true
-is_made (refused n) = false
-is_made (refused_at n u) = false
+course_of a r = record { answer = a.answer; state = view a.walk; runs = r }
 
 -- what it asks: a call and a record that pass 21, 26 and 27
 pub record Going (s : Drawn) (c : Call) : Type 0 where

@@ -1,10 +1,9 @@
 -- The job of 01, "Rigs to try", by value, and what it comes to: a single unit on a straight.
-use Rattle.std.specs.Prelude.{set, pos, negsuc}
+use Rattle.std.specs.Prelude.{set, Some, pos, negsuc}
 use Rattle.job.specs.declared.Form.TheVariants.{Short}
 use Rattle.job.specs.declared.Curve.TheVariants.{Straight}
 use Rattle.job.specs.declared.Job.{Job}
 use Rattle.job.specs.Empty.{empty_body, empty_units, empty_elements}
-use Rattle.reaches.specs.declared.Best.TheVariants.{Found}
 use Rattle.run.specs.declared.Finish.{Finish}
 
 abbrev pub worked_job : Job
@@ -27,6 +26,6 @@ worked_job = record {
 abbrev pub worked_finish : Finish
 worked_finish = record {
   steps = 13;
-  widest = Found (record { station = 3; width = pos 24000; left = negsuc 11999; right = pos 12000 });
+  widest = Some (record { station = 3; width = pos 24000; left = negsuc 11999; right = pos 12000 });
   front = record { x = pos 0; y = pos 65000 };
 }

@@ -2,130 +2,86 @@
 #![tactic(auto)]
 
 ghost use Rattle.std.specs.Prelude.{◌≡◌};
-ghost use Rattle.path.specs.Laying.{path_runs};
+ghost use Rattle.path.specs.Lent.{path_of, room_runs, SameLoans as SamePathLoans};
 ghost use Rattle.walk.specs.Drawn.{view, outcome_of};
-ghost use Rattle.reaches.specs.Cells.{reach_runs};
+ghost use Rattle.reaches.specs.Lent.{room_reaches, reached_of, SameLoans};
 ghost use Rattle.stations.specs.Placing.{call_of};
-ghost use Rattle.run.specs.Walking.{is_made, course_of, walk_to_end, Going};
-ghost use Rattle.run.specs.Run.{finish_at, ran_over, OverEnsures, Runnable, Tellable, RunEnsures};
+ghost use Rattle.run.specs.Walking.{course_of, walk_to_end, Going};
+ghost use Rattle.run.specs.Run.{finish_at, OverEnsures, Runnable, Tellable, RunEnsures};
+ghost use Rattle.run.specs.Ran.{as_ran};
+ghost use Rattle.run.specs.Stops.{stop_at};
 
 use job::{Job, Vehicle};
-use marks::Mark;
-use path::PathRoom;
+use path::{Path, PathRoom};
 use plane::Vec2;
-use reaches::Best;
-use walk::{Advanced, StepAnswer, Walk};
+use reaches::{Place, ReachRoom, Reached};
+use refusal::Fault;
+use walk::{StepRefusal, Walk};
 
 // A walk that came to the last station: the steps, the widest place if a station is complete, and the last front point.
 #[derive(Clone, Copy)]
 pub struct Finish {
     pub steps: usize,
-    pub widest: Best,
+    pub widest: Option<Place>,
     pub front: Vec2,
 }
 
-// Finished; or stopped, with the refusal, the unit and the step, both counted from 1; or refused before anything was written.
-#[derive(Clone, Copy)]
-pub enum Ran {
-    Finished(Finish),
-    Stopped(u8, usize, usize),
-    Refused(u8),
+// A step that was refused: why, at which unit, and which step, both counted from 1; unit 0 where the refusal names none.
+#[derive(Clone, Copy, PartialEq, Eq)]
+pub struct Stop {
+    pub fault: Fault,
+    pub unit: usize,
+    pub step: usize,
 }
 
-fn is_made(answer: StepAnswer) -> bool
-    ensures { result ≡ is_made (outcome_of answer) }
+// Stopped at a step; or refused before any step.
+// Kept: the new form is no plainer: this is the error of a Result already, and its two kinds hold different values.
+#[derive(Clone, Copy, PartialEq, Eq)]
+pub enum RunRefusal {
+    Stopped(Stop),
+    Refused(Fault),
+}
+
+// The step of that number is refused.
+pub fn stop_at(refusal: StepRefusal, step: usize) -> Stop
+    ensures { result ≡ stop_at refusal step }
 {
-    match answer {
-        StepAnswer::Made => true,
-        StepAnswer::Refused(_) => false,
-        StepAnswer::RefusedUnit(_, _) => false,
+    match refusal {
+        StepRefusal::Call(fault) => Stop {
+            fault,
+            unit: 0,
+            step,
+        },
+        StepRefusal::Unit(at) => Stop {
+            fault: at.fault,
+            unit: at.unit,
+            step,
+        },
     }
 }
 
 // The walk goes on to the last station, or up to a step that is refused. Its path and its record were tested once and stay sound.
-fn walk_on(
-    w: Walk,
-    asked: usize,
-    xs: &[i32],
-    ys: &[i32],
-    gxs: &[i32],
-    gys: &[i32],
-    left: &mut [i32],
-    right: &mut [i32],
-    marks: &mut [Mark],
-) -> Advanced
-    requires { Going (view w) (call_of asked (path_runs xs.now ys.now gxs.now gys.now) (reach_runs left.old right.old marks.old)) }
-    ensures { course_of result (reach_runs left.new right.new marks.new)
-        ≡ walk_to_end asked (path_runs xs.now ys.now gxs.now gys.now) (view w) (reach_runs left.old right.old marks.old) }
+fn walk_on(w: &mut Walk, asked: usize, path: Path, room: &mut ReachRoom) -> Result<(), StepRefusal>
+    requires { Going (view w.old) (call_of asked (path_of path) (room_reaches room.old)) }
+    ensures loans { SameLoans room.old room.new }
+    ensures walked { course_of (record { answer = outcome_of result; walk = w.new }) (room_reaches room.new)
+        ≡ walk_to_end asked (path_of path.entry) (view w.old) (room_reaches room.old) }
 {
-    let mut here = w;
-    while here.station + 1 < asked {
-        let next = stations::advance_and_enter(here, asked, xs, ys, gxs, gys, left, right, marks);
-        let answer = next.answer;
-        if !is_made(answer) {
-            return next;
-        }
-        here = next.walk;
+    for _ in w.station + 1..asked {
+        stations::advance_and_enter(w, asked, path, room)?;
     }
-    Advanced {
-        answer: StepAnswer::Made,
-        walk: here,
-    }
+    Ok(())
 }
 
 // The walk at its last station: its steps, the widest place and the front point there.
-fn finished(
-    v: Vehicle,
-    station: usize,
-    asked: usize,
-    xs: &[i32],
-    ys: &[i32],
-    gxs: &[i32],
-    gys: &[i32],
-    left: &[i32],
-    right: &[i32],
-    marks: &[Mark],
-) -> Finish
-    requires { Tellable v station (call_of asked (path_runs xs.now ys.now gxs.now gys.now) (reach_runs left.now right.now marks.now)) }
-    ensures { result ≡ finish_at v station asked (path_runs xs.now ys.now gxs.now gys.now) (reach_runs left.now right.now marks.now) }
+fn finished(v: Vehicle, station: usize, asked: usize, path: Path, runs: Reached) -> Finish
+    requires { Tellable v station (call_of asked (path_of path) (reached_of runs)) }
+    ensures { result ≡ finish_at v station asked (path_of path.entry) (reached_of runs.entry) }
 {
-    let last = walk::tests::station_at(xs, ys, gxs, gys, station);
-    let front = last.position;
-    let count = marks::point_count(v);
-    let widest = reaches::widest_among(count, asked, left, right, marks);
     Finish {
         steps: station,
-        widest,
-        front,
-    }
-}
-
-// What a walk that has ended came to.
-fn told(
-    end: Advanced,
-    asked: usize,
-    xs: &[i32],
-    ys: &[i32],
-    gxs: &[i32],
-    gys: &[i32],
-    left: &[i32],
-    right: &[i32],
-    marks: &[Mark],
-) -> Ran
-    requires { Tellable end.walk.vehicle end.walk.station (call_of asked (path_runs xs.now ys.now gxs.now gys.now) (reach_runs left.now right.now marks.now)) }
-    ensures { result ≡ ran_over asked (path_runs xs.now ys.now gxs.now gys.now) (course_of end (reach_runs left.now right.now marks.now)) }
-{
-    let w = end.walk;
-    let station = w.station;
-    let answer = end.answer;
-    match answer {
-        StepAnswer::Made => {
-            Ran::Finished(finished(
-                w.vehicle, station, asked, xs, ys, gxs, gys, left, right, marks,
-            ))
-        }
-        StepAnswer::Refused(n) => Ran::Stopped(n, 0, station + 1),
-        StepAnswer::RefusedUnit(n, u) => Ran::Stopped(n, u, station + 1),
+        widest: reaches::widest_among(marks::point_count(v), asked, runs),
+        front: walk::tests::station_at(path, station).position,
     }
 }
 
@@ -133,61 +89,50 @@ fn told(
 pub fn run_over(
     v: Vehicle,
     asked: usize,
-    xs: &[i32],
-    ys: &[i32],
-    gxs: &[i32],
-    gys: &[i32],
-    left: &mut [i32],
-    right: &mut [i32],
-    marks: &mut [Mark],
-) -> Ran
-    requires { Runnable v (call_of asked (path_runs xs.now ys.now gxs.now gys.now) (reach_runs left.old right.old marks.old)) }
-    ensures { OverEnsures asked (path_runs xs.now ys.now gxs.now gys.now) v
-        (reach_runs left.old right.old marks.old)
-        result
-        (reach_runs left.new right.new marks.new) }
+    path: Path,
+    room: &mut ReachRoom,
+) -> Result<Finish, RunRefusal>
+    requires { Runnable v (call_of asked (path_of path) (room_reaches room.old)) }
+    ensures loans { SameLoans room.old room.new }
+    ensures ran { OverEnsures asked (path_of path.entry) v
+        (room_reaches room.old)
+        (as_ran result)
+        (room_reaches room.new) }
 {
-    let start = walk::tests::station_at(xs, ys, gxs, gys, 0);
-    let heading = start.heading;
-    reaches::clear(asked, left, right, marks);
-    let w = walk::moving::start(v, heading);
-    let end = walk_on(w, asked, xs, ys, gxs, gys, left, right, marks);
-    told(end, asked, xs, ys, gxs, gys, left, right, marks)
+    let start = walk::tests::station_at(path, 0);
+    room.clear(asked);
+    let mut w = walk::moving::start(v, start.heading);
+    match walk_on(&mut w, asked, path, room) {
+        Ok(()) => Ok(finished(w.vehicle, w.station, asked, path, room.reached())),
+        Err(refusal) => Err(RunRefusal::Stopped(stop_at(refusal, w.station + 1))),
+    }
 }
 
 // A whole job on seven lent runs; a refusal writes nothing.
-pub fn run(
-    j: Job,
-    xs: &mut [i32],
-    ys: &mut [i32],
-    gxs: &mut [i32],
-    gys: &mut [i32],
-    left: &mut [i32],
-    right: &mut [i32],
-    marks: &mut [Mark],
-) -> Ran
-    ensures { RunEnsures j
-        (path_runs xs.old ys.old gxs.old gys.old)
-        (reach_runs left.old right.old marks.old)
-        result
-        (path_runs xs.new ys.new gxs.new gys.new)
-        (reach_runs left.new right.new marks.new) }
+pub fn run(j: Job, path_room: &mut PathRoom, room: &mut ReachRoom) -> Result<Finish, RunRefusal>
+    ensures path_loans { SamePathLoans path_room.old path_room.new }
+    ensures loans { SameLoans room.old room.new }
+    ensures ran { RunEnsures j
+        (room_runs path_room.old)
+        (room_reaches room.old)
+        (as_ran result)
+        (room_runs path_room.new)
+        (room_reaches room.new) }
 {
     if let Err(fault) = job::judge(j) {
-        return Ran::Refused(fault.number());
+        return Err(RunRefusal::Refused(fault));
     }
-    let n = path::step_count(&j.elements[..j.count], j.step) + 1;
-    if !walk::tests::reaches_lent(n, left.len(), right.len(), marks.len()) {
-        return Ran::Refused(21);
+    let stations = path::step_count(&j.elements[..j.count], j.step) + 1;
+    if !walk::tests::reaches_lent(
+        stations,
+        room.left.len(),
+        room.right.len(),
+        room.marks.len(),
+    ) {
+        return Err(RunRefusal::Refused(Fault::RunTooShort));
     }
-    let mut room = PathRoom { xs, ys, gxs, gys };
-    match path::lay(j, &mut room) {
-        Ok(asked) => {
-            let path = room.laid();
-            run_over(
-                j.vehicle, asked, path.xs, path.ys, path.gxs, path.gys, left, right, marks,
-            )
-        }
-        Err(fault) => Ran::Refused(fault.number()),
+    match path::lay(j, path_room) {
+        Ok(asked) => run_over(j.vehicle, asked, path_room.laid(), room),
+        Err(fault) => Err(RunRefusal::Refused(fault)),
     }
 }

@@ -1,94 +1,57 @@
 -- `run::run_over` meets its contract: placed, walked to the end, told.
 use mathlib.Core.Path.{◌≡◌, sym, ◌∙◌, ap, subst}
-use lib.ListN.{length}
+use native.Mathlib.Omega.{arith}
 use borrow.Author.Rules.{rules}
-use Rattle.path.specs.declared.Station.{Station}
-use Rattle.path.specs.Laying.{PathRuns, path_runs}
+use lib.ListN.{length}
 use Rattle.job.proofs.Arrays.{unmapped}
+use Rattle.path.specs.declared.Station.{Station}
+use Rattle.path.specs.Lent.{path_of}
 use Rattle.walk.specs.Drawn.{view, station_at}
 use Rattle.walk.specs.Rig.{drawn_start}
 use Rattle.walk.specs.Moving.{StartReady}
 use Rattle.walk.proofs.PathTests.{station_lent}
 use Rattle.walk.proofs.RecordTests.{lent_call}
 use Rattle.walk.proofs.ReadyLaws.{start_ready}
-use Rattle.reaches.specs.Cells.{Reaches, reach_runs, cleared}
+use Rattle.reaches.specs.Cells.{Reaches}
+use Rattle.reaches.specs.Lent.{room_reaches}
 use Rattle.stations.specs.Placing.{call_of}
 use Rattle.stations.proofs.Entering.{room_of}
-use Rattle.run.proofs.OverLaws.{some_asked, heading_near, placed_going, end_tellable, told_so}
+use Rattle.run.specs.Run.{Tellable}
+use Rattle.run.proofs.OverLaws.{some_asked, heading_near, placed_going, end_on_path, end_tellable}
 use Rattle.run.proofs.run_over.Goals as goal
-use Rattle.run.proofs.run_over.Goals.{After-clear, Start}
-use Rattle.run.proofs.run_over.Lts as lts
-use Rattle.run.proofs.run_over.Reads as reads
-use Rattle.run.proofs.run_over.Tie as tie
+use Rattle.run.proofs.run_over.Goals.{After-start-w}
 
--- the steps of the code that the lemmas below speak of
-abbrev After-start-w : Type 0
-After-start-w = lts.After-start tie.the-claims reads.Pre reads.Post
-
-abbrev After-station_at-start : Type 0
-After-station_at-start = lts.After-station_at tie.the-claims reads.Pre reads.Post
-
-module _ (s : Start) where
-  abbrev path : PathRuns
-  path = path_runs s.args.xs.now s.args.ys.now s.args.gxs.now s.args.gys.now
-
-  abbrev runs : Reaches
-  runs = reach_runs s.args.left.now s.args.right.now s.args.marks.now
-
-  places : length s.args.v.units ≡ 4
-  places = search (rules, unmapped)
-
--- placed
-module _ (c : After-start-w) where
-  abbrev clearing : After-clear
-  clearing = c.before.before.before.before.before
-
-  abbrev at : After-station_at-start
-  at = clearing.before.before.before.before.before
-
-  abbrev from : Start
-  from = at.before.before
-
-  abbrev empty : Reaches
-  empty = reach_runs clearing.clear.new.left clearing.clear.new.right clearing.clear.new.marks
-
-  is_clear : empty ≡ cleared from.args.asked (runs from)
-  is_clear = clearing.clear.ensures
-
-  is_placed : view c.start-w.result ≡ drawn_start from.args.v (station_at (path from) 0).heading
-  is_placed = c.start-w.ensures ∙ ap (λ (z : Station). drawn_start from.args.v z.heading) at.station_at-start.ensures
+is_placed : (c : After-start-w) → view c.start-w.result ≡ drawn_start c.args.v (station_at (path_of c.args.path) 0).heading
+is_placed c = c.start-w.ensures ∙ ap (λ (z : Station). drawn_start c.args.v z.heading) c.station_at-start.ensures
 
 pub station_at-start-requires : goal.station_at-start-requires
 station_at-start-requires c =
-    let s = c.before.before in
-    station_lent (path s) s.args.asked 0 (lent_call (call_of s.args.asked (path s) (runs s)) s.requires.lent).0.room (some_asked s.args.asked (path s) s.args.v (runs s) s.requires)
+    let path = path_of c.args.path in
+    station_lent path c.args.asked 0 (lent_call _ c.requires.lent).0.room (some_asked c.args.asked path c.args.v (room_reaches c.args.room.now) c.requires)
 
 pub clear-requires : goal.clear-requires
-clear-requires c = let s = c.before.before.before.before.before.before in room_of s.args.asked (path s) (runs s) s.requires.lent
+clear-requires c = room_of c.args.asked (path_of c.args.path) (room_reaches c.args.room.now) c.requires.lent
 
 pub start-w-requires : goal.start-w-requires
 start-w-requires c =
-    let a = c.before.before.before.before.before.before.before.before.before.before in
-    let s = a.before.before in
-    subst (λ (z : Station). StartReady s.args.v z.heading) (sym a.station_at-start.ensures)
-    (start_ready s.args.v (places s) s.requires.vehicle _ (heading_near s.args.asked (path s) s.args.v (runs s) s.requires))
+    let places : length c.args.v.units ≡ 4 = search (rules, unmapped) in
+    subst (λ (z : Station). StartReady c.args.v z.heading) (sym c.station_at-start.ensures)
+    (start_ready c.args.v places c.requires.vehicle _ (heading_near c.args.asked (path_of c.args.path) c.args.v (room_reaches c.args.room.now) c.requires))
 
-pub walk_on-end-requires : goal.walk_on-end-requires
-walk_on-end-requires c =
-    let p = c.before.before.before in
-    let s = from p in
-    placed_going s.args.asked (path s) s.args.v (runs s) s.requires p.start-w.result (empty p) (is_placed p) (is_clear p)
+pub walk_on-requires : goal.walk_on-requires
+walk_on-requires c =
+    let p = is_placed (goal.at.walk_on-requires c).After-start-w in
+    placed_going c.args.asked (path_of c.args.path) c.args.v (room_reaches c.args.room.now) c.requires c.start-w.result (room_reaches c.clear.new.self) p c.clear.ensures.cleared
 
-pub told-requires : goal.told-requires
-told-requires c =
-    let k = c.before.before.before.before in
-    let p = k.before.before.before.before in
-    let s = from p in
-    end_tellable s.args.asked (path s) s.args.v (runs s) s.requires p.start-w.result (empty p) (is_placed p) (is_clear p) k.walk_on-end.result _ k.walk_on-end.ensures
+pub finished-requires : goal.finished-requires
+finished-requires c =
+    let path = path_of c.args.path in
+    let p = is_placed (goal.at.finished-requires c).After-start-w in
+    subst (λ (r : Reaches). Tellable c.walk_on.new.w.vehicle c.walk_on.new.w.station (call_of c.args.asked path r)) (sym c.reached.ensures)
+    (end_tellable c.args.asked path c.args.v (room_reaches c.args.room.now) c.requires c.start-w.result (room_reaches c.clear.new.self) p c.clear.ensures.cleared _ _ c.walk_on.ensures.walked)
 
-pub returns : goal.returns
-returns c =
-    let k = c.before.before.before.before.before in
-    let p = k.before.before.before.before in
-    let s = from p in
-    told_so s.args.asked (path s) s.args.v (runs s) s.requires p.start-w.result (empty p) (is_placed p) (is_clear p) k.walk_on-end.result _ k.walk_on-end.ensures _ c.told.ensures
+pub overflow_add-w : goal.overflow_add-w
+overflow_add-w c =
+    let p = is_placed (goal.at.overflow_add-w c).After-start-w in
+    let k = end_on_path c.args.asked (path_of c.args.path) c.args.v (room_reaches c.args.room.now) c.requires c.start-w.result (room_reaches c.clear.new.self) p c.clear.ensures.cleared _ _ c.walk_on.ensures.walked in
+    record { fits = omega (arith, k, c.ranges.asked.fits) }
