@@ -8,13 +8,13 @@ use Rattle.job.specs.declared.Job.{Job}
 use Rattle.path.specs.Stations.{stations}
 use Rattle.path.specs.Laying.{PathRuns}
 use Rattle.reaches.specs.Cells.{Reaches}
-use Rattle.run.specs.declared.Ran.{Ran}
+use Rattle.run.specs.Ran.{Ran}
 use Rattle.run.specs.Run.{job_path, job_course}
 use Rattle.ranking.specs.declared.Setting.{Setting}
-use Rattle.ranking.specs.declared.Listed.{Listed}
-use Rattle.ranking.specs.declared.Listed.TheVariants as L
-use Rattle.bogie.specs.Settings.{Rail, setting_at, last_setting, job_set}
-use Rattle.ranking.specs.Ranking.{listed_of}
+use Rattle.ranking.specs.Ranking.{Listed, listed_of}
+use Rattle.ranking.specs.Ranking as L
+use Rattle.bogie.specs.declared.Rail.{Rail}
+use Rattle.bogie.specs.Settings.{setting_at, last_setting, job_set}
 use Rattle.bogie.specs.Fitting.{fitting}
 use Rattle.bogie.specs.List.{list_refusal, ran_at, ranked_settings}
 use Rattle.ranking.specs.Best.{Among, BestOfThese}
@@ -67,7 +67,7 @@ module _ (j : Job) (b : Rail) (p : PathRuns) (r : Reaches) (walked : Walked j b 
     outside = λ _ h. absurd (h walked.limits);
   }
 
-best_refused : (j : Job) (b : Rail) (p : PathRuns) (r : Reaches) (n : ℕ) (p' : PathRuns) (r' : Reaches) → list_refusal j b p r ≡ suc n → p' ≡ p → r' ≡ r → BestOf j b p r (L.Refused (suc n)) p' r'
+best_refused : (j : Job) (b : Rail) (p : PathRuns) (r : Reaches) (n : ℕ) (p' : PathRuns) (r' : Reaches) → list_refusal j b p r ≡ suc n → p' ≡ p → r' ≡ r → BestOf j b p r (L.refused (suc n)) p' r'
 best_refused j b p r n p' r' e f g =
     let not : Walked j b p r → ⊥ = λ w. omega (arith, none_refused j b p r w, e) in
     record {
@@ -78,8 +78,8 @@ best_refused j b p r n p' r' e f g =
       none = λ h. let k : suc n ≡ 30 = cc in absurd (omega (arith, refusal_most j b p r));
       only = λ w. absurd (not w);
       runs = λ w. absurd (not w);
-      before = λ h. (ap L.Refused (sym e ∙ run_first j b p r h), (f, g));
-      outside = λ h k. (ap L.Refused (sym e ∙ limits_next j b p r h k), (f, g));
+      before = λ h. (ap L.refused (sym e ∙ run_first j b p r h), (f, g));
+      outside = λ h k. (ap L.refused (sym e ∙ limits_next j b p r h k), (f, g));
     }
 
 pub best_settings_lem : BestSettings

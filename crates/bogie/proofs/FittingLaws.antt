@@ -6,28 +6,27 @@ use mathlib.Core.List.{List, ◌∷◌}
 use native.Mathlib.Omega.{arith}
 use native.Mathlib.Nat.{eq-or-lt_of_le, le_of_suc-le-suc}
 use lib.IntN.{ℤ}
-use Rattle.reaches.specs.declared.Best.{Best}
-use Rattle.reaches.specs.declared.Best.TheVariants.{Nothing, Found}
-use Rattle.run.specs.declared.Ran.{Ran}
-use Rattle.run.specs.declared.Ran.TheVariants as R
+use Rattle.std.specs.Prelude.{Option, None, Some}
+use Rattle.reaches.specs.declared.Place.{Place}
+use Rattle.run.specs.Ran.{Ran}
+use Rattle.run.specs.Ran as R
 use Rattle.ranking.specs.declared.Setting.{Setting}
 use Rattle.bogie.specs.Fitting.{with_widest, with_run, fitting}
-use Rattle.ranking.specs.Best.{Among}
+use Rattle.ranking.specs.Best.{Among, Distinct}
 use Rattle.bogie.specs.Best.{Reached}
-use Rattle.ranking.specs.Best.{Distinct}
 
 abbrev pub setting_of : ℕ → ℤ → Setting
 setting_of w width = record { wheelbase = w; width = width }
 
 -- one run more: what holds of the others holds with its setting, if it has one
 with_run_lem : (P : List Setting → Type 0) (w : ℕ) (a : Ran) (others : List Setting) → P others → ((width : ℤ) → Reached a width → P (setting_of w width ∷ others)) → P (with_run w a others)
-with_run_lem P w (R.Finished f) others k h = by f.widest refl
+with_run_lem P w (R.finished f) others k h = by f.widest refl
   where
-    by : (b : Best) → f.widest ≡ b → P (with_widest w b others)
-    by Nothing e = k
-    by (Found p) e = h p.width (record { finish = f; place = p; finished = refl; widest = e; of = refl })
-with_run_lem P w (R.Stopped n u i) others k h = k
-with_run_lem P w (R.Refused n) others k h = k
+    by : (b : Option Place) → f.widest ≡ b → P (with_widest w b others)
+    by None e = k
+    by (Some p) e = h p.width (record { finish = f; place = p; finished = refl; widest = e; of = refl })
+with_run_lem P w (R.stopped n u i) others k h = k
+with_run_lem P w (R.refused n) others k h = k
 
 run_has : (w : ℕ) (a : Ran) (others : List Setting) (width : ℤ) → Reached a width → Among (setting_of w width) (with_run w a others)
 run_has w a others width h = rw (h.finished, h.widest) (inl (ap (setting_of w) (sym h.of)))

@@ -7,5 +7,4 @@ pub mod FittingLaws
 pub mod RefusalLaws
 pub mod ListLaws
 pub mod BestLaws
-pub mod Tied
 pub mod Witnesses

@@ -2,14 +2,16 @@
 use Prim.Native.Nat.{ℕ, zero, suc, ◌-◌, ◌≤◌, ◌<◌}
 use mathlib.Core.Path.{◌≡◌, refl, sym, ◌∙◌, ap, subst⁻¹}
 use mathlib.Core.Logic.{⊎_elim}
-use mathlib.Core.Bool.{Bool, true, false, ◌&&◌}
+use mathlib.Core.Bool.{Bool, true, false, ◌&&◌, ◌||◌}
 use native.Mathlib.Omega.{arith}
 use native.Mathlib.Nat.{eq-or-lt_of_le, mul-lt-mul_of_pos_right, mul-le-mul_right}
-use borrow.Author.Tests.{leb-true, le-leb, lt-leb}
-use lib.Dec.{leb}
+use borrow.Author.Tests.{leb-true, le-leb}
+use lib.Dec.{leb, eqb, ltb}
+use Rattle.std.proofs.lemmas.Bool.Decides.{nat_tests}
 use Rattle.number.proofs.FieldCodec.{both, and}
 use Rattle.job.specs.Allowed.{between, wheelbase_allowed}
-use Rattle.bogie.specs.Settings.{Rail, setting_at, settings_allowed, rail_allowed}
+use Rattle.bogie.specs.declared.Rail.{Rail}
+use Rattle.bogie.specs.Settings.{setting_at, settings_allowed, rail_allowed}
 use Rattle.bogie.specs.Best.{InLimits}
 
 pub setting_allowed : (b : Rail) (n i : ℕ) → settings_allowed b n ≡ true → i < n → wheelbase_allowed (setting_at b i) ≡ true
@@ -71,31 +73,34 @@ ends_test b n h =
     let last = both (leb 5000 (setting_at b n)) (leb (setting_at b n) 200000) (setting_allowed b (suc n) n t (omega arith)) in
     and (le-leb 5000 b.lowest (omega (arith, leb-true 5000 (setting_at b 0) first.0))) last.1)
 
-pub neither : (a : Bool) → (a && false) ≡ false
-neither true = refl
-neither false = refl
-
--- the limits of a rail, one by one
+-- the limits, as the program tests them
 module _ (b : Rail) where
-  pub no_pitch : b.pitch ≡ 0 → false ≡ rail_allowed b
+  abbrev outside : Bool
+  outside = (eqb b.pitch 0 || eqb b.number 0) || ltb 32 b.number
+
+  within_tests : outside ≡ false → (1 ≤ b.pitch) × ((1 ≤ b.number) × (b.number ≤ 32))
+  within_tests h = (grind (arith, nat_tests), (grind (arith, nat_tests), grind (arith, nat_tests)))
+
+  limits_inside : InLimits b → outside ≡ false
+  limits_inside k =
+      let p : 1 ≤ b.pitch = k.pitch in
+      let l : 1 ≤ b.number = k.least in
+      let m : b.number ≤ 32 = k.most in
+      grind (arith, nat_tests)
+
+  pub outside_test : outside ≡ true → false ≡ rail_allowed b
+  outside_test h = by (rail_allowed b) refl
+    where
+      by : (t : Bool) → rail_allowed b ≡ t → false ≡ t
+      by true e = sym (limits_inside (in_limits b e)) ∙ h
+      by false e = refl
+
+  pub inside_test : outside ≡ false → (leb 5000 b.lowest && leb (setting_at b (b.number - 1)) 200000) ≡ rail_allowed b
   unfolding rail_allowed
-  no_pitch e = let z = lt-leb 1 b.pitch (omega (arith, e)) in rw z refl
-
-  wrong_number : between 1 32 b.number ≡ false → false ≡ rail_allowed b
-  unfolding rail_allowed
-  wrong_number e = rw e (sym (neither (leb 1 b.pitch)))
-
-  pub none_settings : b.number ≡ 0 → false ≡ rail_allowed b
-  none_settings e = let z = lt-leb 1 b.number (omega (arith, e)) in wrong_number (rw z refl)
-
-  pub too_many : 32 < b.number → false ≡ rail_allowed b
-  too_many h = let z = lt-leb b.number 32 h in wrong_number (rw z (neither (leb 1 b.number)))
-
-  pub rail_test : 1 ≤ b.pitch → 1 ≤ b.number → b.number ≤ 32 → (leb 5000 b.lowest && leb (setting_at b (b.number - 1)) 200000) ≡ rail_allowed b
-  unfolding rail_allowed
-  rail_test p l m =
-      let a = le-leb 1 b.pitch p in
-      let c = le-leb 1 b.number l in
-      let d = le-leb b.number 32 m in
-      let e : suc (b.number - 1) ≡ b.number = omega (arith, l) in
-      ends_test b (b.number - 1) p ∙ rw (a, c, d) (ap (settings_allowed b) e)
+  inside_test h =
+      let k = within_tests h in
+      let a = le-leb 1 b.pitch k.0 in
+      let c = le-leb 1 b.number k.1.0 in
+      let d = le-leb b.number 32 k.1.1 in
+      let e : suc (b.number - 1) ≡ b.number = omega (arith, k.1.0) in
+      ends_test b (b.number - 1) k.0 ∙ rw (a, c, d) (ap (settings_allowed b) e)

@@ -20,9 +20,10 @@ use Rattle.path.specs.Stations.{stations}
 use Rattle.path.specs.Laying.{PathRuns, room_for}
 use Rattle.walk.specs.Tests.{reaches_lent}
 use Rattle.reaches.specs.Cells.{Reaches, lengths_of}
-use Rattle.run.specs.declared.Ran.{Ran}
+use Rattle.run.specs.Ran.{Ran}
 use Rattle.run.specs.Run.{run_refusal, job_path, job_course, RunEnsures}
-use Rattle.bogie.specs.Settings.{Rail, setting_at, rail_allowed, job_set}
+use Rattle.bogie.specs.declared.Rail.{Rail}
+use Rattle.bogie.specs.Settings.{setting_at, rail_allowed, job_set}
 use Rattle.bogie.specs.List.{list_refusal, ran_job}
 use Rattle.bogie.specs.Best.{InLimits, Walked}
 use Rattle.bogie.proofs.FaultsKept.{kept_refusal}

@@ -9,7 +9,8 @@ use Rattle.walk.proofs.RecordTests.{sound_record}
 use Rattle.walk.proofs.StepWitnesses.{two_stations, in_line, path_passes, record_passes}
 use Rattle.reaches.specs.Cells.{reach_runs}
 use Rattle.stations.specs.Placing.{call_of}
-use Rattle.bogie.specs.Settings.{Rail, settings_allowed, rail_allowed}
+use Rattle.bogie.specs.declared.Rail.{Rail}
+use Rattle.bogie.specs.Settings.{settings_allowed, rail_allowed}
 use Rattle.bogie.specs.Walks.{LastUnit, Walkable}
 use Rattle.bogie.proofs.WalksLaws.{last_unit}
 

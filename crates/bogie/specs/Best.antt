@@ -1,20 +1,19 @@
 -- The claim about the list (02, N1: "Demand 2 now covers this list"), over what `list_settings` and `run::run` ensure.
-use Rattle.std.specs.Prelude.{ℕ, ◌+◌, ◌*◌, ◌≤◌, ◌<◌, ◌≡◌, length, ℤ}
+use Rattle.std.specs.Prelude.{ℕ, ◌+◌, ◌*◌, ◌≤◌, ◌<◌, ◌≡◌, length, ℤ, Some}
 use Rattle.job.specs.declared.Job.{Job}
 use Rattle.path.specs.Laying.{PathRuns}
 use Rattle.reaches.specs.Cells.{Reaches}
 use Rattle.reaches.specs.declared.Place.{Place}
-use Rattle.reaches.specs.declared.Best.TheVariants.{Found}
 use Rattle.run.specs.declared.Finish.{Finish}
-use Rattle.run.specs.declared.Ran.{Ran}
-use Rattle.run.specs.declared.Ran.TheVariants as R
+use Rattle.run.specs.Ran.{Ran}
+use Rattle.run.specs.Ran as R
 use Rattle.run.specs.Run.{run_refusal, RunEnsures}
 use Rattle.ranking.specs.declared.Setting.{Setting}
-use Rattle.ranking.specs.declared.Listed.{Listed}
-use Rattle.ranking.specs.declared.Listed.TheVariants as L
+use Rattle.ranking.specs.Ranking.{Listed, settings_in}
+use Rattle.ranking.specs.Ranking as L
 use Rattle.ranking.specs.Best.{InOrder, Among, ListedOrBeaten}
-use Rattle.bogie.specs.Settings.{Rail, setting_at, job_set}
-use Rattle.ranking.specs.Ranking.{settings_in}
+use Rattle.bogie.specs.declared.Rail.{Rail}
+use Rattle.bogie.specs.Settings.{setting_at, job_set}
 use Rattle.bogie.specs.List.{ListEnsures}
 
 -- the limits: "a pitch of at least one tick", "1 to 32 settings", and each setting a wheelbase, in exact numbers
@@ -33,8 +32,8 @@ pub record Walked (j : Job) (b : Rail) (p : PathRuns) (r : Reaches) : Type 0 whe
 pub record Reached (a : Ran) (width : ℤ) : Type 0 where
   pub finish : Finish
   pub place : Place
-  pub finished : a ≡ R.Finished finish
-  pub widest : finish.widest ≡ Found place
+  pub finished : a ≡ R.finished finish
+  pub widest : finish.widest ≡ Some place
   pub of : place.width ≡ width
 
 -- whatever a run of the job with this last wheelbase, on the runs handed in, answers, it is that
@@ -54,7 +53,7 @@ NoneReaches j b p r = (i : ℕ) (width : ℤ) → i < b.number → RunReaches j 
 
 -- a refusal that has written nothing
 abbrev pub Unwritten : ℕ → PathRuns → Reaches → Listed → PathRuns → Reaches → Type 0
-Unwritten n p r answer p' r' = (answer ≡ L.Refused n) × ((p' ≡ p) × (r' ≡ r))
+Unwritten n p r answer p' r' = (answer ≡ L.refused n) × ((p' ≡ p) × (r' ≡ r))
 
 -- what is claimed of a list handed back
 pub record BestOf (j : Job) (b : Rail) (p : PathRuns) (r : Reaches) (answer : Listed) (p' : PathRuns) (r' : Reaches) : Type 0 where
@@ -64,8 +63,8 @@ pub record BestOf (j : Job) (b : Rail) (p : PathRuns) (r : Reaches) (answer : Li
   -- nothing better is left out: a setting whose run is finished with a complete station is listed, or beaten by three that are
   pub all : Walked j b p r → (i : ℕ) (width : ℤ) → i < b.number → RunReaches j p r (setting_at b i) width → ListedOrBeaten (record { wheelbase = setting_at b i; width = width }) (settings_in answer)
   -- "with 30 exactly when there is none to list"
-  pub none : answer ≡ L.Refused 30 → Walked j b p r × NoneReaches j b p r
-  pub only : Walked j b p r → NoneReaches j b p r → answer ≡ L.Refused 30
+  pub none : answer ≡ L.refused 30 → Walked j b p r × NoneReaches j b p r
+  pub only : Walked j b p r → NoneReaches j b p r → answer ≡ L.refused 30
   -- "Afterwards, 30 included, ... the lent runs hold the last setting's walk as far as it went": all seven are as a run of it leaves them
   pub runs : Walked j b p r → (i : ℕ) → i + 1 ≡ b.number → (a : Ran) (q : PathRuns) (s : Reaches) → RunEnsures (job_set j (setting_at b i)) p r a q s → (p' ≡ q) × (r' ≡ s)
   -- "After the job's own faults and 21", which `run` tells alike, "it refuses with 29, before any walk, for a pitch, a count or a setting outside the limits"

@@ -6,13 +6,13 @@ use Rattle.path.specs.Stations.{stations}
 use Rattle.path.specs.Laying.{PathRuns}
 use Rattle.reaches.specs.Cells.{Reaches}
 use Rattle.stations.specs.Placing.{unless_refused}
-use Rattle.run.specs.declared.Ran.{Ran}
+use Rattle.run.specs.Ran.{Ran}
 use Rattle.run.specs.Run.{ran_over, run_refusal, job_path, job_course}
 use Rattle.ranking.specs.declared.Setting.{Setting}
-use Rattle.ranking.specs.declared.Listed.{Listed}
-use Rattle.ranking.specs.declared.Listed.TheVariants as L
-use Rattle.bogie.specs.Settings.{Rail, setting_at, last_setting, rail_allowed, job_set}
-use Rattle.ranking.specs.Ranking.{ranked, listed_of}
+use Rattle.ranking.specs.Ranking.{Listed, ranked, listed_of}
+use Rattle.ranking.specs.Ranking as L
+use Rattle.bogie.specs.declared.Rail.{Rail}
+use Rattle.bogie.specs.Settings.{setting_at, last_setting, rail_allowed, job_set}
 use Rattle.bogie.specs.Fitting.{fitting}
 
 -- "After the job's own faults and 21, it refuses with 29, before any walk"; 0 for none
@@ -33,7 +33,7 @@ ranked_settings j b p r = ranked (fitting (ran_at j p r) (setting_at b) b.number
 
 abbrev pub list_answer : ℕ → Listed → Listed
 list_answer zero l = l
-list_answer (suc n) l = L.Refused (suc n)
+list_answer (suc n) l = L.refused (suc n)
 
 -- Refused by 3 to 9, 21 or 29, no run is written. "Afterwards, 30 included despite demand 1, the lent runs hold the last setting's walk as far as it went":
 -- the path stands in its four runs, and the other three are as the last setting's run leaves them

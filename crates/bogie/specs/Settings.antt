@@ -5,12 +5,7 @@ use Rattle.job.specs.declared.Vehicle.{Vehicle}
 use Rattle.job.specs.declared.Job.{Job}
 use Rattle.job.specs.Allowed.{between, wheelbase_allowed}
 use Rattle.job.specs.Empty.{empty_unit}
-
--- what the customer's bogie offers: the wheelbase of setting 0, what each next one adds, and how many there are
-pub record Rail : Type 0 where
-  pub lowest : ℕ
-  pub pitch : ℕ
-  pub number : ℕ
+use Rattle.bogie.specs.declared.Rail.{Rail}
 
 -- setting i, counted from 0
 abbrev pub setting_at : Rail → ℕ → ℕ

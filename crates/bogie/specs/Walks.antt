@@ -5,11 +5,11 @@ use Rattle.path.specs.Laying.{PathRuns}
 use Rattle.walk.specs.Drawn.{Call}
 use Rattle.walk.specs.Tests.{lent, path_sound, vehicle_sound}
 use Rattle.reaches.specs.Cells.{Reaches}
-use Rattle.run.specs.declared.Ran.{Ran}
+use Rattle.run.specs.Ran.{Ran}
 use Rattle.run.specs.Run.{ran_over, walk_over}
-use Rattle.ranking.specs.declared.Listed.{Listed}
-use Rattle.bogie.specs.Settings.{Rail, setting_at, rail_allowed, vehicle_set}
-use Rattle.ranking.specs.Ranking.{ranked, listed_of}
+use Rattle.ranking.specs.Ranking.{Listed, ranked, listed_of}
+use Rattle.bogie.specs.declared.Rail.{Rail}
+use Rattle.bogie.specs.Settings.{setting_at, rail_allowed, vehicle_set}
 use Rattle.bogie.specs.Fitting.{fitting}
 
 -- the run at a last wheelbase over a laid path

@@ -7,9 +7,9 @@ use Rattle.job.specs.declared.Vehicle.{Vehicle}
 use Rattle.path.specs.Laying.{PathRuns, path_runs}
 use Rattle.reaches.specs.Cells.{Reaches, reach_runs}
 use Rattle.run.specs.Worked.{worked_job}
-use Rattle.ranking.specs.declared.Listed.{Listed}
-use Rattle.ranking.specs.declared.Listed.TheVariants.{Two, Three, Refused}
-use Rattle.bogie.specs.Settings.{Rail, vehicle_set}
+use Rattle.ranking.specs.Ranking.{Listed, two, three, refused}
+use Rattle.bogie.specs.declared.Rail.{Rail}
+use Rattle.bogie.specs.Settings.{vehicle_set}
 use Rattle.bogie.specs.List.{ListEnsures}
 
 -- runs of zeros, one entry a station
@@ -51,10 +51,10 @@ pub record WorkedLists : Type 0 where
   pub replaced : vehicle_set (two_units Short 7000 50000) 62000 ≡ two_units Short 7000 62000
   pub replaced_long : vehicle_set (two_units Long 0 50000) 62000 ≡ two_units Long 0 62000
   -- 20,000 to 60,000: five settings, of which four have the width 24,000, and the three shortest are listed
-  pub three : Lists (record { lowest = 20000; pitch = 10000; number = 5 }) (Three (record { wheelbase = 20000; width = pos 24000 }) (record { wheelbase = 30000; width = pos 24000 }) (record { wheelbase = 40000; width = pos 24000 }))
+  pub three : Lists (record { lowest = 20000; pitch = 10000; number = 5 }) (three (record { wheelbase = 20000; width = pos 24000 }) (record { wheelbase = 30000; width = pos 24000 }) (record { wheelbase = 40000; width = pos 24000 }))
   -- 40,000 to 60,000: two are listed
-  pub two : Lists (record { lowest = 40000; pitch = 10000; number = 3 }) (Two (record { wheelbase = 40000; width = pos 24000 }) (record { wheelbase = 50000; width = pos 24000 }))
+  pub two : Lists (record { lowest = 40000; pitch = 10000; number = 3 }) (two (record { wheelbase = 40000; width = pos 24000 }) (record { wheelbase = 50000; width = pos 24000 }))
   -- 50,001 alone: its walk comes to the last station, but none to list
-  pub none : Lists (record { lowest = 50001; pitch = 1; number = 1 }) (Refused 30)
+  pub none : Lists (record { lowest = 50001; pitch = 1; number = 1 }) (refused 30)
   -- 200,000 and one tick more
-  pub outside : Lists (record { lowest = 200000; pitch = 1; number = 2 }) (Refused 29)
+  pub outside : Lists (record { lowest = 200000; pitch = 1; number = 2 }) (refused 29)

@@ -2,8 +2,11 @@
 #![tactic(auto)]
 
 ghost use Rattle.std.specs.Prelude.{◌≡◌};
-ghost use Rattle.path.specs.Laying.{path_runs};
-ghost use Rattle.reaches.specs.Cells.{reach_runs};
+ghost use Rattle.refusal.specs.Numbers.{fault_number};
+ghost use Rattle.path.specs.Lent.{path_of, room_runs, SameLoans as SamePathLoans};
+ghost use Rattle.reaches.specs.Lent.{room_reaches, SameLoans};
+ghost use Rattle.run.specs.Ran.{as_ran};
+ghost use Rattle.ranking.specs.Ranking.{as_listed, so_far};
 ghost use Rattle.stations.specs.Placing.{call_of};
 ghost use Rattle.bogie.specs.Settings.{rail_allowed, vehicle_set};
 ghost use Rattle.bogie.specs.Fitting.{run_entered};
@@ -13,46 +16,49 @@ ghost use Rattle.bogie.specs.Worked.{WorkedLists};
 ghost use Rattle.bogie.specs.Walks.{LastUnit, Walkable, WalkEnsures};
 
 use job::{Job, Unit, Vehicle};
-use path::PathRoom;
-use ranking::{Listed, Setting};
-use reaches::Best;
-use run::Ran;
+use path::{Path, PathRoom};
+use ranking::{Setting, Shortlist};
+use reaches::ReachRoom;
+use refusal::Fault;
+use run::{Finish, RunRefusal};
 
-// The limits of a rail of settings: as they only grow, the first and the last tell of all.
-fn rail_allowed(lowest: u32, pitch: u32, number: u32) -> bool
-    ensures { result ≡ rail_allowed (record { lowest = lowest; pitch = pitch; number = number }) }
-{
-    if pitch == 0 {
-        return false;
+// The settings of a sliding bogie: the lowest last wheelbase, what each next one adds, and how many there are.
+#[derive(Clone, Copy, PartialEq, Eq)]
+pub struct Rail {
+    pub lowest: u32,
+    pub pitch: u32,
+    pub number: u32,
+}
+
+impl Rail {
+    // The limits: as settings only grow, the first and the last tell of all.
+    fn allowed(self) -> bool
+        ensures { result ≡ rail_allowed self }
+    {
+        if (self.pitch == 0) | (self.number == 0) | (32 < self.number) {
+            return false;
+        }
+        let last = u64::from(self.lowest) + u64::from(self.number - 1) * u64::from(self.pitch);
+        (5000 <= self.lowest) & (last <= 200000)
     }
-    if number == 0 {
-        return false;
-    }
-    if 32 < number {
-        return false;
-    }
-    let last = lowest as u64 + (number as u64 - 1) * (pitch as u64);
-    (5000 <= lowest) & (last <= 200000)
 }
 
 // A setting is listed where its walk came to the last station with a complete station.
-fn enter_run(wheelbase: u32, ran: Ran, l: Listed) -> Listed
-    ensures { result ≡ run_entered wheelbase ran l }
+fn enter_run(
+    wheelbase: u32,
+    ran: Result<Finish, RunRefusal>,
+    l: Option<Shortlist>,
+) -> Option<Shortlist>
+    ensures { so_far result ≡ run_entered wheelbase (as_ran ran) (so_far l) }
 {
-    match ran {
-        Ran::Finished(f) => {
-            let widest = f.widest;
-            match widest {
-                Best::Nothing => l,
-                Best::Found(p) => {
-                    let width = p.width;
-                    ranking::enter(Setting { wheelbase, width }, l)
-                }
-            }
-        }
-        Ran::Stopped(_, _, _) => l,
-        Ran::Refused(_) => l,
-    }
+    let Ok(finish) = ran else {
+        return l;
+    };
+    let Some(place) = finish.widest else {
+        return l;
+    };
+    let width = place.width;
+    Some(ranking::enter(Setting { wheelbase, width }, l))
 }
 
 // The vehicle with its last wheelbase replaced.
@@ -61,132 +67,80 @@ fn vehicle_set(v: Vehicle, wheelbase: u32) -> Vehicle
     ensures { result ≡ vehicle_set v wheelbase }
 {
     let last = v.count - 1;
-    let mut units = v.units;
-    let u = units[last];
-    let body = u.body;
-    units[last] = Unit {
+    let mut set = v;
+    set.units[last] = Unit {
         wheelbase,
-        hitch: u.hitch,
-        fold: u.fold,
-        body,
+        ..v.units[last]
     };
-    let form = v.form;
-    Vehicle {
-        form,
-        count: v.count,
-        units,
-        overhang: v.overhang,
-        front_half_width: v.front_half_width,
-        rear_half_width: v.rear_half_width,
-    }
+    set
 }
 
 // Every setting is walked over the same laid path, from a new placement each.
 fn walk_settings(
     v: Vehicle,
-    lowest: u32,
-    pitch: u32,
-    number: u32,
+    rail: Rail,
     asked: usize,
-    xs: &[i32],
-    ys: &[i32],
-    gxs: &[i32],
-    gys: &[i32],
-    left: &mut [i32],
-    right: &mut [i32],
-    marks: &mut [marks::Mark],
-) -> Listed
-    requires { Walkable v (record { lowest = lowest; pitch = pitch; number = number }) (call_of asked (path_runs xs.now ys.now gxs.now gys.now) (reach_runs left.old right.old marks.old)) }
-    ensures { WalkEnsures asked (path_runs xs.now ys.now gxs.now gys.now) v (record { lowest = lowest; pitch = pitch; number = number })
-        (reach_runs left.old right.old marks.old)
-        result
-        (reach_runs left.new right.new marks.new) }
+    path: Path,
+    room: &mut ReachRoom,
+) -> Result<Shortlist, Fault>
+    requires { Walkable v rail (call_of asked (path_of path) (room_reaches room.old)) }
+    ensures loans { SameLoans room.old room.new }
+    ensures listed { WalkEnsures asked (path_of path.entry) v rail
+        (room_reaches room.old)
+        (as_listed result)
+        (room_reaches room.new) }
 {
-    let mut listed = Listed::Refused(30);
-    let mut i: u32 = 0;
-    while i < number {
-        let wheelbase = lowest + i * pitch;
-        let set = vehicle_set(v, wheelbase);
-        let ran = run::run_over(set, asked, xs, ys, gxs, gys, left, right, marks);
+    let mut listed = None;
+    for i in 0..rail.number {
+        let wheelbase = rail.lowest + i * rail.pitch;
+        let ran = run::run_over(vehicle_set(v, wheelbase), asked, path, room);
         listed = enter_run(wheelbase, ran, listed);
-        i += 1;
     }
-    listed
+    listed.ok_or(Fault::NoneListed)
 }
 
-// The refusal before any walk, 0 for none: the job's own faults, 21 on all seven runs, then 29.
-fn refusal_of(
-    j: Job,
-    lowest: u32,
-    pitch: u32,
-    number: u32,
-    xs: &[i32],
-    ys: &[i32],
-    gxs: &[i32],
-    gys: &[i32],
-    left: &[i32],
-    right: &[i32],
-    marks: &[marks::Mark],
-) -> u8
-    ensures { result ≡ list_refusal j (record { lowest = lowest; pitch = pitch; number = number })
-        (path_runs xs.now ys.now gxs.now gys.now)
-        (reach_runs left.now right.now marks.now) }
+// What refuses before any walk: the job's own faults, 21 on all seven runs, then 29.
+fn list_tested(j: Job, rail: Rail, path_room: &PathRoom, room: &ReachRoom) -> Result<(), Fault>
+    ensures { fault_number result ≡ list_refusal j rail (room_runs path_room.now) (room_reaches room.now) }
 {
-    if let Err(fault) = job::judge(j) {
-        return fault.number();
+    job::judge(j)?;
+    let stations = path::step_count(&j.elements[..j.count], j.step) + 1;
+    let lent = walk::tests::path_lent(stations, path_room.laid())
+        & walk::tests::reaches_lent(
+            stations,
+            room.left.len(),
+            room.right.len(),
+            room.marks.len(),
+        );
+    if !lent {
+        return Err(Fault::RunTooShort);
     }
-    let n = path::step_count(&j.elements[..j.count], j.step) + 1;
-    if !walk::tests::path_lent(n, xs, ys, gxs, gys) {
-        return 21;
+    if !rail.allowed() {
+        return Err(Fault::Rail);
     }
-    if !walk::tests::reaches_lent(n, left.len(), right.len(), marks.len()) {
-        return 21;
-    }
-    if !rail_allowed(lowest, pitch, number) {
-        return 29;
-    }
-    0
+    Ok(())
 }
 
 // The best three settings of a job's last wheelbase, on seven lent runs. Refused by 3 to 9, 21 or 29 nothing is written;
 // after that, 30 included, the runs hold the last setting's walk as far as it went.
 pub fn list_settings(
     j: Job,
-    lowest: u32,
-    pitch: u32,
-    number: u32,
-    xs: &mut [i32],
-    ys: &mut [i32],
-    gxs: &mut [i32],
-    gys: &mut [i32],
-    left: &mut [i32],
-    right: &mut [i32],
-    marks: &mut [marks::Mark],
-) -> Listed
-    ensures { ListEnsures j (record { lowest = lowest; pitch = pitch; number = number })
-        (path_runs xs.old ys.old gxs.old gys.old)
-        (reach_runs left.old right.old marks.old)
-        result
-        (path_runs xs.new ys.new gxs.new gys.new)
-        (reach_runs left.new right.new marks.new) }
+    rail: Rail,
+    path_room: &mut PathRoom,
+    room: &mut ReachRoom,
+) -> Result<Shortlist, Fault>
+    ensures path_loans { SamePathLoans path_room.old path_room.new }
+    ensures loans { SameLoans room.old room.new }
+    ensures listed { ListEnsures j rail
+        (room_runs path_room.old)
+        (room_reaches room.old)
+        (as_listed result)
+        (room_runs path_room.new)
+        (room_reaches room.new) }
 {
-    let refusal = refusal_of(
-        j, lowest, pitch, number, xs, ys, gxs, gys, left, right, marks,
-    );
-    if refusal != 0 {
-        return Listed::Refused(refusal);
-    }
-    let mut room = PathRoom { xs, ys, gxs, gys };
-    match path::lay(j, &mut room) {
-        Ok(asked) => {
-            let path = room.laid();
-            walk_settings(
-                j.vehicle, lowest, pitch, number, asked, path.xs, path.ys, path.gxs, path.gys,
-                left, right, marks,
-            )
-        }
-        Err(fault) => Listed::Refused(fault.number()),
-    }
+    list_tested(j, rail, path_room, room)?;
+    let asked = path::lay(j, path_room)?;
+    walk_settings(j.vehicle, rail, asked, path_room.laid(), room)
 }
 
 // Claim: the settings listed are the best of all that reach the last station with a complete station.

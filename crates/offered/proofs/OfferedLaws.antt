@@ -6,8 +6,10 @@ use mathlib.Core.List.{List, [], ◌∷◌}
 use mathlib.Core.Logic.{inl, inr}
 use borrow.Author.Tests.{eq-eqb}
 use lib.ListN.{length}
-use Rattle.std.specs.Prelude.{Ok, Err}
+use Rattle.std.specs.Prelude.{Result, Ok, Err, MatchResult, IsErrAnd}
+use Rattle.std.proofs.lemmas.Result.{err_from_is_err_and}
 use Rattle.refusal.specs.Numbers.{number_of}
+use Rattle.refusal.specs.declared.Fault.{Fault}
 use Rattle.refusal.specs.declared.Refusal.{Refusal}
 use Rattle.number.specs.Read.{Bytes, Read, got, refused, pick}
 use Rattle.job.specs.declared.Job.{Job}
@@ -21,23 +23,26 @@ use Rattle.walk.specs.Tests.{reaches_lent}
 use Rattle.reaches.specs.Cells.{Reaches, lengths_of}
 use Rattle.run.specs.Run.{run_refusal}
 use Rattle.ranking.specs.declared.Setting.{Setting}
-use Rattle.ranking.specs.declared.Listed.{Listed}
-use Rattle.ranking.specs.declared.Listed.TheVariants as L
-use Rattle.bogie.specs.Settings.{Rail, rail_allowed}
-use Rattle.ranking.specs.Ranking.{listed_of}
+use Rattle.ranking.specs.declared.Shortlist.{Shortlist}
+use Rattle.ranking.specs.Ranking.{Listed, listed_of, as_listed}
+use Rattle.ranking.specs.Ranking as L
+use Rattle.bogie.specs.declared.Rail.{Rail}
+use Rattle.bogie.specs.Settings.{rail_allowed}
 use Rattle.bogie.specs.List.{list_refusal, ranked_settings, list_answer, ListEnsures}
 use Rattle.swept.specs.Swept.{empty_path, empty_reaches}
 use Rattle.swept.proofs.RangeLaws.{refused_so}
 use Rattle.swept.proofs.SweptLaws.{run_passes}
-use Rattle.offered.specs.declared.Offered.{Offered}
-use Rattle.offered.specs.declared.Offered.TheVariants as O
+use Rattle.offered.specs.declared.OfferRefusal.{OfferRefusal}
+use Rattle.offered.specs.declared.OfferRefusal.TheVariants as V
+use Rattle.offered.specs.Answers.{Offered, as_offered}
+use Rattle.offered.specs.Answers as O
 use Rattle.offered.specs.Offered.{list_of, offered_read, offered_of, offered_into}
 use Rattle.offered.specs.Ranges.{ListedSo, ListIntoEnsures}
 
 -- ---- runs of zeros
 
 -- 29 is all that is left to refuse
-by_rail : (t : Bool) (l : Listed) → list_answer (or_fault t 29 0) l ≡ pick t l (L.Refused 29)
+by_rail : (t : Bool) (l : Listed) → list_answer (or_fault t 29 0) l ≡ pick t l (L.refused 29)
 by_rail true l = refl
 by_rail false l = refl
 
@@ -51,7 +56,7 @@ module _ (s : List ℕ) (bytes : Bytes s) (b : Rail) where
   own_runs = by (read_job s) refl
     where
       by : (x : Read Job) → read_job s ≡ x → offered_into x b empty_path empty_reaches ≡ offered_read x b
-      by (got j e) q = ap O.Listed (own_list j b (read_written s j e bytes q).judged)
+      by (got j e) q = ap O.listed (own_list j b (read_written s j e bytes q).judged)
       by (refused n p) q = refl
 
   pub own_offers : (a : Offered) (p : PathRuns) (r : Reaches) → ListIntoEnsures s b empty_path empty_reaches a p r → a ≡ offered_of s b
@@ -79,18 +84,25 @@ list_so j b p r l sound =
 -- ---- what `read_job` and `list_settings` ensure, put together
 
 module _ (s : List ℕ) (b : Rail) (p : PathRuns) (r : Reaches) where
-  pub refused_offers : (e : Refusal) → ReadEnsures s (Err e) → (n : ℕ) → n ≡ number_of e.fault → ListIntoEnsures s b p r (O.Refused n e.place) p r
-  refused_offers e k n h =
-      let q : read_job s ≡ refused n e.place = sym k.answer ∙ ap (λ (m : ℕ). refused m e.place) (sym h) in
-      record { answer = rw q refl; path = rw q refl; reaches = rw q refl; ranges = refused_so s n e.place q }
+  pub refused_offers : (e : Refusal) → ReadEnsures s (Err e) → ListIntoEnsures s b p r (O.refused (number_of e.fault) e.place) p r
+  refused_offers e k =
+      let q : read_job s ≡ refused (number_of e.fault) e.place = sym k.answer in
+      record { answer = rw q refl; path = rw q refl; reaches = rw q refl; ranges = refused_so s (number_of e.fault) e.place q }
 
-  pub accepted_offers : (j : Job) → ReadEnsures s (Ok j) → (l : Listed) (p' : PathRuns) (r' : Reaches) → ListEnsures j b p r l p' r' → ListIntoEnsures s b p r (O.Listed l) p' r'
-  accepted_offers j k l p' r' t =
+  -- a list's refusal is handed on
+  told : (a : Result Shortlist Fault) (t : Result Shortlist OfferRefusal) → MatchResult a (λ l. t ≡ Ok l) (λ f. IsErrAnd t (λ x. x ≡ V.List f)) → as_offered t ≡ O.listed (as_listed a)
+  told (Ok l) t m = rw m refl
+  told (Err f) t m = let k = err_from_is_err_and t m in rw (k.1, k.2) refl
+
+  pub accepted_offers : (j : Job) → ReadEnsures s (Ok j) → (a : Result Shortlist Fault) (p' : PathRuns) (r' : Reaches) → ListEnsures j b p r (as_listed a) p' r'
+      → (t : Result Shortlist OfferRefusal) → MatchResult a (λ l. t ≡ Ok l) (λ f. IsErrAnd t (λ x. x ≡ V.List f)) → ListIntoEnsures s b p r (as_offered t) p' r'
+  accepted_offers j k a p' r' l t m =
       let e : read_job s ≡ got j (length s) = sym k.answer in
       let sound = (read_written s j (length s) k.bytes e).judged in
-      record {
-        answer = rw e (ap O.Listed t.answered);
-        path = rw e t.path;
-        reaches = rw e t.reaches;
-        ranges = subst⁻¹ ListedSo t.answered (list_so j b p r (ranked_settings j b p r) sound);
-      }
+      subst⁻¹ (λ (x : Offered). ListIntoEnsures s b p r x p' r') (told a t m)
+      (record {
+        answer = rw e (ap O.listed l.answered);
+        path = rw e l.path;
+        reaches = rw e l.reaches;
+        ranges = subst⁻¹ ListedSo l.answered (list_so j b p r (ranked_settings j b p r) sound);
+      })

@@ -4,10 +4,10 @@ use Rattle.number.specs.Read.{refused}
 use Rattle.job_reader.specs.Record.{read_job}
 use Rattle.path.specs.Laying.{PathRuns}
 use Rattle.reaches.specs.Cells.{Reaches}
-use Rattle.bogie.specs.Settings.{Rail}
+use Rattle.bogie.specs.declared.Rail.{Rail}
 use Rattle.swept.specs.Claims.{bytes_read}
-use Rattle.offered.specs.declared.Offered.{Offered}
-use Rattle.offered.specs.declared.Offered.TheVariants as O
+use Rattle.offered.specs.Answers.{Offered}
+use Rattle.offered.specs.Answers as O
 use Rattle.offered.specs.Offered.{offered_of}
 use Rattle.offered.specs.Ranges.{ListIntoEnsures}
 
@@ -17,6 +17,6 @@ FirstBytes = (s : List ℕ) (b : Rail) → offered_of s b ≡ offered_of (take b
 
 -- what the reader refuses is told with its byte whatever the settings, before 21 and 29, and a caller's runs stay
 pub record RecordFirst : Type 0 where
-  pub own : (s : List ℕ) (n k : ℕ) → read_job s ≡ refused n k → (b : Rail) → offered_of s b ≡ O.Refused n k
+  pub own : (s : List ℕ) (n k : ℕ) → read_job s ≡ refused n k → (b : Rail) → offered_of s b ≡ O.refused n k
   pub lent : (s : List ℕ) (n k : ℕ) → read_job s ≡ refused n k → (b : Rail) (p : PathRuns) (r : Reaches) (a : Offered) (p' : PathRuns) (r' : Reaches)
-      → ListIntoEnsures s b p r a p' r' → (a ≡ O.Refused n k) × (p' ≡ p) × (r' ≡ r)
+      → ListIntoEnsures s b p r a p' r' → (a ≡ O.refused n k) × (p' ≡ p) × (r' ≡ r)

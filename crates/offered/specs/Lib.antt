@@ -1,3 +1,4 @@
+pub mod Answers
 pub mod Offered
 pub mod Ranges
 pub mod Claims

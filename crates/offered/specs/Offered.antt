@@ -7,31 +7,31 @@ use Rattle.path.specs.Laying.{PathRuns}
 use Rattle.reaches.specs.Cells.{Reaches}
 use Rattle.stations.specs.Placing.{unless_refused}
 use Rattle.run.specs.Run.{job_path, job_course}
-use Rattle.ranking.specs.declared.Listed.{Listed}
-use Rattle.ranking.specs.declared.Listed.TheVariants as L
-use Rattle.bogie.specs.Settings.{Rail, last_setting, rail_allowed, job_set}
-use Rattle.ranking.specs.Ranking.{listed_of}
+use Rattle.ranking.specs.Ranking.{Listed, listed_of}
+use Rattle.ranking.specs.Ranking as L
+use Rattle.bogie.specs.declared.Rail.{Rail}
+use Rattle.bogie.specs.Settings.{last_setting, rail_allowed, job_set}
 use Rattle.bogie.specs.List.{list_refusal, ranked_settings, list_answer}
 use Rattle.swept.specs.Swept.{empty_path, empty_reaches}
-use Rattle.offered.specs.declared.Offered.{Offered}
-use Rattle.offered.specs.declared.Offered.TheVariants as O
+use Rattle.offered.specs.Answers.{Offered}
+use Rattle.offered.specs.Answers as O
 
 -- the list of an accepted job, on runs that have room for every path: the best three settings, 30 without one; 29 for a rail outside the limits
 unfoldable pub list_of : Job → Rail → Listed
-list_of j b = pick (rail_allowed b) (listed_of (ranked_settings j b empty_path empty_reaches)) (L.Refused 29)
+list_of j b = pick (rail_allowed b) (listed_of (ranked_settings j b empty_path empty_reaches)) (L.refused 29)
 
 -- the record's own refusal comes before 29
 abbrev pub offered_read : Read Job → Rail → Offered
-offered_read (got j e) b = O.Listed (list_of j b)
-offered_read (refused n p) b = O.Refused n p
+offered_read (got j e) b = O.listed (list_of j b)
+offered_read (refused n p) b = O.refused n p
 
 unfoldable pub offered_of : List ℕ → Rail → Offered
 offered_of s b = offered_read (read_job s) b
 
 -- on a caller's runs: what the reader refuses writes nothing; an accepted job is listed, and its answer and the seven runs are that list's
 abbrev pub offered_into : Read Job → Rail → PathRuns → Reaches → Offered
-offered_into (got j e) b p r = O.Listed (list_answer (list_refusal j b p r) (listed_of (ranked_settings j b p r)))
-offered_into (refused n k) b p r = O.Refused n k
+offered_into (got j e) b p r = O.listed (list_answer (list_refusal j b p r) (listed_of (ranked_settings j b p r)))
+offered_into (refused n k) b p r = O.refused n k
 
 abbrev pub path_into : Read Job → Rail → PathRuns → Reaches → PathRuns
 path_into (got j e) b p r = unless_refused (list_refusal j b p r) (job_path j p) p

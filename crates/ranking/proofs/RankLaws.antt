@@ -8,7 +8,7 @@ use mathlib.Core.List.{List, [], ◌∷◌}
 use lib.ListN.{length, take, length-take}
 use Rattle.number.specs.Read.{pick}
 use Rattle.ranking.specs.declared.Setting.{Setting}
-use Rattle.ranking.specs.declared.Listed.TheVariants.{Refused}
+use Rattle.ranking.specs.Ranking.{refused}
 use Rattle.ranking.specs.Ranking.{is_before, insert, ranked, listed_of, settings_in}
 use Rattle.ranking.specs.Best.{Before, InOrder, Among, Apart, Distinct, BestThree}
 use Rattle.ranking.proofs.OrderLaws.{Told, told, before_trans}
@@ -102,14 +102,14 @@ listed_three (a ∷ b ∷ []) = refl
 listed_three (a ∷ b ∷ c ∷ l) = refl
 
 -- 30 exactly where there is none to list
-listed_none : (l : List Setting) → listed_of l ≡ Refused 30 → (s : Setting) → Among s l → ⊥
+listed_none : (l : List Setting) → listed_of l ≡ refused 30 → (s : Setting) → Among s l → ⊥
 listed_none l e s m = by l (sym (listed_three l) ∙ ap settings_in e) m
   where
     by : (l : List Setting) → take 3 l ≡ [] → Among s l → ⊥
     by [] e m = m
     by (t ∷ l) e m = let z : ◌≡◌ {A = ℕ} 0 1 = cc in omega arith
 
-none_listed : (l : List Setting) → ((s : Setting) → Among s l → ⊥) → listed_of l ≡ Refused 30
+none_listed : (l : List Setting) → ((s : Setting) → Among s l → ⊥) → listed_of l ≡ refused 30
 none_listed [] h = refl
 none_listed (s ∷ l) h = absurd (h s (inl refl))
 

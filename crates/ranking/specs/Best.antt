@@ -1,8 +1,8 @@
 -- What the list is among settings of different wheelbases, apart from how it is made.
 use Rattle.std.specs.Prelude.{◌≤◌, ◌<◌, ◌≡◌, ◌⊎◌, List, [], ◌∷◌, length, ◌<ℤ◌}
 use Rattle.ranking.specs.declared.Setting.{Setting}
-use Rattle.ranking.specs.declared.Listed.{Listed}
-use Rattle.ranking.specs.declared.Listed.TheVariants.{Refused}
+use Rattle.ranking.specs.Ranking.{Listed}
+use Rattle.ranking.specs.Ranking.{refused}
 use Rattle.ranking.specs.Ranking.{ranked, listed_of, settings_in}
 
 -- "least widest width first, the shorter wheelbase first among equals"
@@ -39,8 +39,8 @@ pub record BestOfThese (these : List Setting) (answer : Listed) : Type 0 where
   -- nothing better is left out
   pub all : (s : Setting) → Among s these → ListedOrBeaten s (settings_in answer)
   -- 30 exactly where there is none
-  pub none : answer ≡ Refused 30 → (s : Setting) → Among s these → ⊥
-  pub only : ((s : Setting) → Among s these → ⊥) → answer ≡ Refused 30
+  pub none : answer ≡ refused 30 → (s : Setting) → Among s these → ⊥
+  pub only : ((s : Setting) → Among s these → ⊥) → answer ≡ refused 30
 
 -- the claim
 abbrev pub BestThree : Type 0

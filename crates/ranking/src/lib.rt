@@ -2,64 +2,40 @@
 #![tactic(auto)]
 
 ghost use Rattle.std.specs.Prelude.{◌≡◌};
-ghost use Rattle.ranking.specs.Ranking.{is_before, entered};
+ghost use Rattle.ranking.specs.Ranking.{as_list, so_far, entered};
 ghost use Rattle.ranking.specs.Best.{BestThree};
 
-// A setting: the last wheelbase, and the widest width of the walk with it.
-#[derive(Clone, Copy, PartialEq, Eq)]
+// A setting: the widest width of the walk with it, and the last wheelbase; the less in this order, the better.
+#[derive(Clone, Copy, PartialEq, Eq, PartialOrd, Ord)]
 pub struct Setting {
-    pub wheelbase: u32,
     pub width: i64,
+    pub wheelbase: u32,
 }
 
-// The settings listed, best first; or a refusal, 30 where there is none to list.
-#[derive(Clone, Copy)]
-pub enum Listed {
+// The settings listed, best first; one at least.
+#[derive(Clone, Copy, PartialEq, Eq)]
+pub enum Shortlist {
     One(Setting),
     Two(Setting, Setting),
     Three(Setting, Setting, Setting),
-    Refused(u8),
-}
-
-fn is_before(s: Setting, t: Setting) -> bool
-    ensures { result ≡ is_before s t }
-{
-    (s.width < t.width) | ((s.width <= t.width) & (s.wheelbase < t.wheelbase))
 }
 
 // One more setting: it enters before the first that it beats, and no more than three stay.
-pub fn enter(s: Setting, l: Listed) -> Listed
-    ensures { result ≡ entered s l }
+#[tactic(auto, unfolding(crate::specs::Ranking::insert))]
+pub fn enter(s: Setting, l: Option<Shortlist>) -> Shortlist
+    ensures { as_list result ≡ entered s (so_far l) }
 {
     match l {
-        Listed::One(a) => {
-            if is_before(s, a) {
-                return Listed::Two(s, a);
-            }
-            Listed::Two(a, s)
-        }
-        Listed::Two(a, b) => {
-            if is_before(s, a) {
-                return Listed::Three(s, a, b);
-            }
-            if is_before(s, b) {
-                return Listed::Three(a, s, b);
-            }
-            Listed::Three(a, b, s)
-        }
-        Listed::Three(a, b, c) => {
-            if is_before(s, a) {
-                return Listed::Three(s, a, b);
-            }
-            if is_before(s, b) {
-                return Listed::Three(a, s, b);
-            }
-            if is_before(s, c) {
-                return Listed::Three(a, b, s);
-            }
-            Listed::Three(a, b, c)
-        }
-        Listed::Refused(_) => Listed::One(s),
+        None => Shortlist::One(s),
+        Some(Shortlist::One(a)) if s < a => Shortlist::Two(s, a),
+        Some(Shortlist::One(a)) => Shortlist::Two(a, s),
+        Some(Shortlist::Two(a, b)) if s < a => Shortlist::Three(s, a, b),
+        Some(Shortlist::Two(a, b)) if s < b => Shortlist::Three(a, s, b),
+        Some(Shortlist::Two(a, b)) => Shortlist::Three(a, b, s),
+        Some(Shortlist::Three(a, b, _)) if s < a => Shortlist::Three(s, a, b),
+        Some(Shortlist::Three(a, b, _)) if s < b => Shortlist::Three(a, s, b),
+        Some(Shortlist::Three(a, b, c)) if s < c => Shortlist::Three(a, b, s),
+        Some(Shortlist::Three(a, b, c)) => Shortlist::Three(a, b, c),
     }
 }
 

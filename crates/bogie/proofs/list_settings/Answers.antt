@@ -1,40 +1,28 @@
--- `bogie::list_settings` meets its contract: refused, or laid and walked.
-use mathlib.Core.Path.{sym, ◌∙◌, subst}
-use borrow.Author.Rules.{rules}
-use Rattle.path.specs.Laying.{PathRuns, path_runs}
-use Rattle.reaches.specs.Cells.{reach_runs}
+-- `bogie::list_settings` meets its contract: a job that passed its tests is laid and walked.
+use mathlib.Core.Path.{sym, subst}
+use Rattle.path.specs.Laying.{PathRuns}
+use Rattle.reaches.specs.Lent.{room_reaches}
 use Rattle.stations.specs.Placing.{call_of}
-use Rattle.run.proofs.RunLaws.{in_runs}
-use Rattle.bogie.specs.Settings.{Rail}
-use Rattle.bogie.specs.List.{ListEnsures}
+use Rattle.ranking.specs.Ranking.{as_listed}
 use Rattle.bogie.specs.Walks.{Walkable, WalkEnsures}
-use Rattle.bogie.proofs.ListLaws.{refused_list, not_refused, laid_walkable, walked_list}
+use Rattle.bogie.proofs.ListLaws.{not_refused, laid_walkable, walked_list}
 use Rattle.bogie.proofs.list_settings.Goals as goal
 
-pub returns-then-refusal-ne0 : goal.returns-then-refusal-ne0
-returns-then-refusal-ne0 c = refused_list c.args.j _ _ _ _ c.refusal_of-refusal.ensures c.if-refusal-ne0.true
+pub returns-in_err-asked-clause-listed : goal.returns-in_err-asked-clause-listed
+returns-in_err-asked-clause-listed c = absurd (not_refused c.args.j c.args.rail _ _ (sym c.in_ok-list_tested.ensures) _ _ c.in_err-asked.ensures.laid)
 
 pub walk_settings-requires : goal.walk_settings-requires
 walk_settings-requires c =
-    let j = c.args.j in
-    let b : Rail = record { lowest = c.args.lowest; pitch = c.args.pitch; number = c.args.number } in
-    let r = reach_runs c.args.left.now c.args.right.now c.args.marks.now in
-    let none = sym c.refusal_of-refusal.ensures ∙ c.if-refusal-ne0.false in
-    subst (λ (q : PathRuns). Walkable j.vehicle b (call_of c.in-Ok.asked q r)) (sym c.laid-path.ensures) (laid_walkable j b _ r none _ _ c.in-Ok.ensures.laid)
+    let a = c.args in
+    let m = c.in_ok-asked in
+    subst (λ (q : PathRuns). Walkable a.j.vehicle a.rail (call_of m.asked q (room_reaches a.room.now))) (sym c.laid.ensures)
+    (laid_walkable a.j a.rail _ (room_reaches a.room.now) (sym c.in_ok-list_tested.ensures) _ _ m.ensures.laid)
 
-pub returns-in-Ok : goal.returns-in-Ok
-returns-in-Ok c =
-    let j = c.args.j in
-    let b : Rail = record { lowest = c.args.lowest; pitch = c.args.pitch; number = c.args.number } in
-    let p = path_runs c.args.xs.now c.args.ys.now c.args.gxs.now c.args.gys.now in
-    let r = reach_runs c.args.left.now c.args.right.now c.args.marks.now in
-    let s = reach_runs c.walk_settings.new.left c.walk_settings.new.right c.walk_settings.new.marks in
-    let none = sym c.refusal_of-refusal.ensures ∙ c.if-refusal-ne0.false in
-    let loans = c.in-Ok.ensures.loans in
-    let walked = subst (λ (q : PathRuns). WalkEnsures c.in-Ok.asked q j.vehicle b r c.walk_settings.result s) c.laid-path.ensures c.walk_settings.ensures in
-    in_runs (λ (q : PathRuns). ListEnsures j b p r c.walk_settings.result q s) (walked_list j b _ r none _ _ c.in-Ok.ensures.laid _ _ walked) (search rules) (search rules) (search rules) (search rules)
-
-pub returns-in-Err : goal.returns-in-Err
-returns-in-Err c =
-    let none = sym c.refusal_of-refusal.ensures ∙ c.if-refusal-ne0.false in
-    absurd (not_refused c.args.j _ _ _ none _ _ c.in-Err.ensures.laid)
+pub returns-clause-listed : goal.returns-clause-listed
+returns-clause-listed c =
+    let w = c.walk_settings in
+    let r = room_reaches c.args.room.now in
+    let a = c.args in
+    let m = c.in_ok-asked in
+    walked_list a.j a.rail _ r (sym c.in_ok-list_tested.ensures) _ _ m.ensures.laid _ _
+    (subst (λ (q : PathRuns). WalkEnsures m.asked q a.j.vehicle a.rail r (as_listed w.result) (room_reaches w.new.room)) c.laid.ensures w.ensures.listed)

@@ -5,8 +5,4 @@ use Rattle.offered.proofs.list_job.Goals as goal
 
 pub returns : goal.returns
 unfolding empty_path empty_reaches
-returns c =
-    let o = c.before.before.before.before.before.before.before.before in
-    let k = o.before.before.before.before.before.before.before.before in
-    let a = k.args in
-    own_offers a.bytes.now (λ i. (k.shared_slice_known-1.given i).fits) (record { lowest = a.lowest; pitch = a.pitch; number = a.number }) _ _ _ o.list_into.ensures
+returns c = own_offers c.args.bytes.now (λ i. (c.type_inv.bytes i).fits) c.args.rail _ _ _ c.list_into.ensures.listed
