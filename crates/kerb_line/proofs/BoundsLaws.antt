@@ -3,7 +3,6 @@ use Prim.Native.Nat.{ℕ, ◌+◌, ◌<◌, ◌^◌}
 use mathlib.Core.Path.{◌≡◌, refl}
 use mathlib.Core.Bool.{true, false}
 use mathlib.Core.List.{List}
-use native.Mathlib.Omega.{arith}
 use borrow.Author.Count.{below_more}
 use lib.ListN.{length, get_or}
 use lib.IntN.{ℤ}
@@ -27,10 +26,7 @@ module _ {r a b : ℤ} (ok : mag r < 2 ^ 63) (p : reread a ≡ a) (q : reread b 
   pub most_of : reread a ≤ℤ r → reread b ≤ℤ r → (a ≤ℤ reread r) × (b ≤ℤ reread r)
   most_of h k = rw (reread_result ok refl) (rw p at h, rw q at k)
 
--- bounds that were widened by no place, by one more, and by two lists of them
-pub around_none : (b : Bounds) (places : List Vec2) → TakesAllIn b places 0 b
-around_none b places = record { kept = λ u i. i; taken = λ p h. absurd (omega arith) }
-
+-- bounds that were widened by one more place, and by two lists of them
 pub around_more : {b c d : Bounds} {places : List Vec2} {n : ℕ} → TakesAllIn b places n c → TakesIn c (get_or places n origin) d → TakesAllIn b places (n + 1) d
 around_more {b} {c} {d} {places} {n} f g = record { kept = λ u i. g.kept u (f.kept u i); taken = below_more (λ p. Inside d (get_or places p origin)) n (λ p h. g.kept _ (f.taken p h)) g.taken }
 

@@ -45,6 +45,7 @@ impl Bounds {
     }
 
     // Bounds that hold all points, before a step and after it.
+    // Kept: two slices, for the reason given in `lowest_touch`.
     pub(crate) fn of_moves(olds: &[Vec2], news: &[Vec2]) -> Bounds
         ensures { Enclosed result olds.now news.now }
     {
@@ -52,6 +53,7 @@ impl Bounds {
     }
 
     // Whether the segment from v to w lies wholly to one side of the bounds.
+    #[tactic(auto, unfolding(crate::specs::Inner::beyond))]
     pub(crate) fn beyond(self, v: Vec2, w: Vec2) -> bool
         ensures { result ≡ beyond_z self v w }
     {

@@ -5,17 +5,28 @@ mod bounds;
 mod moves;
 
 ghost use Rattle.std.specs.Prelude.{◌≡◌};
-ghost use Rattle.kerb_line.specs.Kerb.{kerb_runs, vertices, kerb_lent, vertex_sound, kerb_sound};
+ghost use Rattle.kerb_line.specs.Kerb.{vertices, kerb_lent, vertex_sound, kerb_sound};
+ghost use Rattle.kerb_line.specs.Lent.{runs_of};
 ghost use Rattle.kerb_line.specs.Contact.{lowest_touch};
 ghost use Rattle.kerb_line.specs.Requires.{Lent, Meetable};
 
 use plane::Vec2;
 
+// A kerb in two lent runs: how many vertices it has, and how far east and how far north each lies.
+#[derive(Clone, Copy)]
+pub struct Kerb<'a> {
+    pub count: usize,
+    pub xs: &'a [i32],
+    pub ys: &'a [i32],
+}
+
 // 21 for the kerb: from 1 to 500 vertices, and each of its two runs has as many.
-pub fn kerb_lent(n: usize, xs: &[i32], ys: &[i32]) -> bool
-    ensures { result ≡ kerb_lent n (kerb_runs xs.now ys.now) }
+#[tactic(auto, unfolding(crate::specs::Kerb::kerb_lent))]
+pub fn kerb_lent(kerb: Kerb) -> bool
+    ensures { result ≡ kerb_lent kerb.entry.count (runs_of kerb.entry) }
 {
-    ((1 <= n) & (n <= 500)) & ((n <= xs.len()) & (n <= ys.len()))
+    let n = kerb.count;
+    ((1 <= n) & (n <= 500)) & ((n <= kerb.xs.len()) & (n <= kerb.ys.len()))
 }
 
 // The largest size of a coordinate that a station may have.
@@ -29,11 +40,12 @@ fn vertex_sound(x: i32, y: i32) -> bool
 }
 
 // 26 for the kerb: every vertex lies where a station may.
-pub fn kerb_sound(n: usize, xs: &[i32], ys: &[i32]) -> bool
-    requires { Lent n (kerb_runs xs.now ys.now) }
-    ensures { result ≡ kerb_sound n (kerb_runs xs.now ys.now) }
+pub fn kerb_sound(kerb: Kerb) -> bool
+    requires { Lent kerb.count (runs_of kerb) }
+    ensures { result ≡ kerb_sound kerb.entry.count (runs_of kerb.entry) }
 {
-    for (x, y) in xs[..n].iter().zip(&ys[..n]) {
+    let n = kerb.count;
+    for (x, y) in kerb.xs[..n].iter().zip(&kerb.ys[..n]) {
         if !vertex_sound(*x, *y) {
             return false;
         }
@@ -42,9 +54,10 @@ pub fn kerb_sound(n: usize, xs: &[i32], ys: &[i32]) -> bool
 }
 
 // The lowest of the points whose move touches or crosses a segment of the kerb, if one does.
-pub fn lowest_touch(olds: &[Vec2], news: &[Vec2], n: usize, xs: &[i32], ys: &[i32]) -> Option<usize>
-    requires { Meetable olds.now news.now n (kerb_runs xs.now ys.now) }
-    ensures { result ≡ lowest_touch olds.now news.now (vertices n (kerb_runs xs.now ys.now)) }
+// Kept: the new form is no plainer: a struct of the two slices would be built for this call alone, and taken apart where a move is tested.
+pub fn lowest_touch(olds: &[Vec2], news: &[Vec2], kerb: Kerb) -> Option<usize>
+    requires { Meetable olds.now news.now kerb.count (runs_of kerb) }
+    ensures { result ≡ lowest_touch olds.now news.now (vertices kerb.entry.count (runs_of kerb.entry)) }
 {
-    moves::lowest(olds, news, n, xs, ys)
+    moves::lowest(olds, news, kerb)
 }

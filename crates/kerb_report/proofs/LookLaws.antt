@@ -1,44 +1,46 @@
 -- The look ahead, a step at a time: a made step without a touch leaves a walk that is looked at likewise, any other ends it.
 use Prim.Native.Nat.{ℕ, suc, ◌+◌, ◌-◌, ◌≤◌, ◌<◌}
-use mathlib.Core.Path.{◌≡◌, refl, sym, ◌∙◌, ap, subst}
+use mathlib.Core.Path.{◌≡◌, refl, sym, ◌∙◌, ap, ap₂, subst}
 use mathlib.Core.Bool.{true}
 use mathlib.Core.List.{List}
 use native.Mathlib.Omega.{arith}
 use borrow.Author.Tests.{le-leb}
 use lib.ListN.{length, get_or, take}
 use lib.Seq.{sets}
-use Rattle.std.specs.Prelude.{Option, Some, None}
+use Rattle.std.specs.Prelude.{Option, Some, None, Err}
 use Rattle.number.proofs.FieldCodec.{and}
 use Rattle.plane.specs.declared.Vec2.{Vec2}
 use Rattle.job.specs.declared.Vehicle.{Vehicle}
 use Rattle.path.specs.Laying.{PathRuns}
 use Rattle.walk.specs.declared.Walk.{Walk}
-use Rattle.walk.specs.declared.Advanced.{Advanced}
-use Rattle.walk.specs.Drawn.{Drawn, view, Call, station_at, Outcome, made, refused, refused_at, outcome_of}
+use Rattle.walk.specs.declared.StepRefusal.{StepRefusal}
+use Rattle.walk.specs.declared.StepRefusal.TheVariants as S
+use Rattle.walk.specs.Drawn.{Drawn, view, Call, station_at, Outcome, made, outcome_of}
 use Rattle.walk.specs.Tests.{lent, path_lent, record_sound}
 use Rattle.walk.specs.Rig.{Stepped, draw_step, zero_vector}
 use Rattle.walk.specs.Moving.{AdvanceEnsures}
 use Rattle.walk.proofs.PathTests.{path_station, station_lent}
 use Rattle.walk.proofs.RecordTests.{lent_path, sound_record}
 use Rattle.marks.specs.Count.{point_count}
-use Rattle.points.specs.Points.{no_points, rig_points}
-use Rattle.points.specs.Requires.{RigAt}
+use Rattle.points.specs.Points.{no_points}
 use Rattle.points.proofs.PointLaws.{points_sized}
 use Rattle.stations.specs.Stepping.{points_at}
 use Rattle.stations.specs.Inner.{Open}
 use Rattle.stations.proofs.CallLaws.{step_open}
-use Rattle.stations.proofs.Entering.{rig_at, taken_as}
+use Rattle.stations.proofs.Entering.{rig_at, points_fit, taken_count, taken_as}
 use Rattle.stations.proofs.RigLaws.{sound_keeping}
-use Rattle.run.specs.Walking.{steps_left, Going}
+use Rattle.run.specs.declared.RunRefusal.TheVariants.{Stopped}
+use Rattle.run.specs.Stops.{stop_at}
+use Rattle.run.specs.Walking.{steps_left}
 use Rattle.run.proofs.WalkingLaws.{is_open, made_step_lem}
 use Rattle.run.proofs.CourseLaws.{vehicle_stays}
 use Rattle.touching.specs.Touch.{OnMap}
 use Rattle.kerb_line.specs.Kerb.{KerbRuns, vertices}
 use Rattle.kerb_line.specs.Contact.{lowest_touch}
-use Rattle.kerb_report.specs.declared.KerbReport.{KerbReport}
-use Rattle.kerb_report.specs.declared.KerbReport.TheVariants as R
+use Rattle.kerb_line.specs.Requires.{Meetable}
+use Rattle.kerb_report.specs.Answers.{KerbReport, as_report}
+use Rattle.kerb_report.specs.Answers as R
 use Rattle.kerb_report.specs.Report.{call_over, first_or, after_step, look_ahead}
-use Rattle.kerb_report.specs.Looking.{stopped_by}
 use Rattle.kerb_report.specs.Requires.{Ahead, Steppable, OnPath}
 
 -- runs as long as the stations asked for pass 21
@@ -47,7 +49,7 @@ unfolding lent
 over_lent asked path e = let l = le-leb asked asked (omega arith) in and e (and l (and l l))
 
 module _ (asked : ℕ) (path : PathRuns) (kerb : List Vec2) where
-  pub look_end : (s : Drawn) → asked ≤ s.station + 1 → look_ahead (steps_left asked s) asked path kerb s ≡ R.Nothing
+  pub look_end : (s : Drawn) → asked ≤ s.station + 1 → look_ahead (steps_left asked s) asked path kerb s ≡ R.nothing
   unfolding look_ahead
   look_end s h = let e : steps_left asked s ≡ 0 = omega arith in rw e refl
 
@@ -57,54 +59,84 @@ module _ (asked : ℕ) (path : PathRuns) (kerb : List Vec2) where
   unfolding look_ahead
   look_next s h = let e : steps_left asked s ≡ suc (asked - (s.station + 2)) = omega arith in rw e refl
 
--- a step that is not made ends the look, whatever the steps after it would come to
-after_not_made : (k : ℕ) (o : Outcome) (r : KerbReport) → (o ≡ made → ⊥) → stopped_by k o ≡ after_step k o r
-after_not_made k made r n = absurd (n refl)
-after_not_made k (refused m) r n = refl
-after_not_made k (refused_at m u) r n = refl
+-- a refused step ends the look, whatever the steps after it would come to
+stop_told : (f : StepRefusal) (k : ℕ) (r : KerbReport) → as_report (Err (Stopped (stop_at f k))) ≡ after_step k (outcome_of (Err f)) r
+stop_told (S.Call f) k r = refl
+stop_told (S.Unit f) k r = refl
 
 module _ (asked : ℕ) (path : PathRuns) (n : ℕ) (kerb : KerbRuns) where
-  pub ahead_going : (s : Drawn) → Ahead s asked path n kerb → Going s (call_over asked path)
-  ahead_going s a = record { lent = over_lent asked path a.path; path = a.stations; rig = a.rig }
+  abbrev c : Call
+  c = call_over asked path
 
-  -- what the walk's tests let pass can be stepped, and its points can be placed
-  module _ (w : Walk) (a : Ahead (view w) asked path n kerb) (units : length w.vehicle.units ≡ 4) where
+  abbrev position : ℕ → Vec2
+  position k = (station_at path k).position
+
+  abbrev ahead_of : Drawn → KerbReport
+  ahead_of s = look_ahead (steps_left asked s) asked path (vertices n kerb) s
+
+  -- a walk that is looked at, and how many points it has
+  pub record Here (w : Walk) (m : ℕ) : Type 0 where
+    pub ahead : Ahead (view w) asked path n kerb
+    pub places : length w.vehicle.units ≡ 4
+    pub count : m ≡ point_count w.vehicle
+
+  -- the points of such a walk where it stands, at the start of an array
+  abbrev pub PointsOf : Walk → List Vec2 → Type 0
+  PointsOf w ps = ps ≡ sets no_points 0 (points_at (view w) c)
+
+  module _ (w : Walk) (m : ℕ) (a : Here w m) where
+    -- they can be placed
     pub on_path : OnPath w path
     on_path =
-        let k = (sound_record asked (view w) a.rig).station in
+        let k = (sound_record asked (view w) a.ahead.rig).station in
         record {
-          station = station_lent path asked w.station (lent_path asked path a.path).room k;
-          rig = rig_at w path asked w.station units (sound_keeping asked (view w) a.rig) a.stations k;
+          station = station_lent path asked w.station (lent_path asked path a.ahead.path).room k;
+          rig = rig_at w path asked w.station a.places (sound_keeping asked (view w) a.ahead.rig) a.ahead.stations k;
         }
 
+    -- and it can be stepped
     pub steppable : w.station + 1 < asked → Steppable w path
     steppable h =
-        let l = lent_path asked path a.path in
+        let l = lent_path asked path a.ahead.path in
         let r = on_path.rig in
-        let new = path_station path asked (w.station + 1) a.stations h in
+        let new = path_station path asked (w.station + 1) a.ahead.stations h in
         record {
           from = on_path.station;
           to = station_lent path asked (w.station + 1) l.room h;
           ready = record { units = record { rig = r.rig; old_x = r.front.x; old_y = r.front.y; new_x = new.x; new_y = new.y }; station = omega (arith, l.most) };
         }
 
-  -- one step of the program from a walk that is not at its last station
-  module _ (w : Walk) (next : Advanced) (a : Ahead (view w) asked path n kerb) (h : w.station + 1 < asked)
-      (e : AdvanceEnsures w (station_at path w.station).position (station_at path (w.station + 1)).position next) where
-    abbrev c : Call
-    c = call_over asked path
+    module _ (ps : List Vec2) (e : PointsOf w ps) where
+      pub fit : m ≤ length ps
+      fit = points_fit w.vehicle on_path.rig.rig.most w.d (position w.station) a.count e
+
+      pub taken : m ≡ length (take m ps)
+      taken = taken_count w.vehicle on_path.rig.rig.most w.d (position w.station) a.count e
+
+      first : take m ps ≡ points_at (view w) c
+      first = taken_as w.vehicle on_path.rig.rig.most w.d (position w.station) a.count e
+
+      on_map : (k : ℕ) → OnMap (get_or (take m ps) k zero_vector)
+      on_map k = rw first (let p = points_sized on_path.rig k in record { x = p.x; y = p.y })
+
+  -- the points of two such walks can be looked at as they move
+  pub meetable : (w w' : Walk) (m : ℕ) → Here w m → Here w' m → (ps qs : List Vec2) → PointsOf w ps → PointsOf w' qs → Meetable (take m ps) (take m qs) n kerb
+  meetable w w' m a b ps qs e f =
+      record {
+        moves = sym (taken w m a ps e) ∙ taken w' m b qs f;
+        old = λ k h. on_map w m a ps e k;
+        new = λ k h. on_map w' m b qs f k;
+        lent = a.ahead.kerb;
+        sound = a.ahead.vertices;
+      }
+
+  -- a step of the program that leads to station k
+  module _ (w : Walk) (m : ℕ) (a : Here w m) (k : ℕ) (led : w.station + 1 ≡ k) (h : k < asked) where
+    inside : w.station + 1 < asked
+    inside = omega arith
 
     is_on : Open (view w) c
-    is_on = is_open (view w) c (ahead_going (view w) a) h
-
-    drawn : record { answer = outcome_of next.answer; state = view next.walk } ≡ draw_step (view w) c
-    drawn = e.stepped ∙ sym (step_open (view w) c is_on)
-
-    drawn_answer : outcome_of next.answer ≡ (draw_step (view w) c).answer
-    drawn_answer = ap (λ (t : Stepped). t.answer) drawn
-
-    drawn_state : view next.walk ≡ (draw_step (view w) c).state
-    drawn_state = ap (λ (t : Stepped). t.state) drawn
+    is_on = is_open (view w) c (record { lent = over_lent asked path a.ahead.path; path = a.ahead.stations; rig = a.ahead.rig }) inside
 
     abbrev later : KerbReport
     later = look_ahead (asked - (w.station + 2)) asked path (vertices n kerb) (draw_step (view w) c).state
@@ -112,54 +144,62 @@ module _ (asked : ℕ) (path : PathRuns) (n : ℕ) (kerb : KerbRuns) where
     abbrev moved : Option ℕ
     moved = lowest_touch (points_at (view w) c) (points_at (draw_step (view w) c).state c) (vertices n kerb)
 
-    pub stopped_here : (outcome_of next.answer ≡ made → ⊥)
-        → stopped_by (w.station + 1) (outcome_of next.answer) ≡ look_ahead (steps_left asked (view w)) asked path (vertices n kerb) (view w)
-    stopped_here m =
-        let k = w.station + 1 in
-        ap (λ (o : Outcome). stopped_by k o) drawn_answer ∙ after_not_made k (draw_step (view w) c).answer (first_or k moved later) (λ f. m (drawn_answer ∙ f))
-        ∙ sym (look_next asked path (vertices n kerb) (view w) h)
+    drawn : (o : Outcome) (w' : Walk) → AdvanceEnsures w (position w.station) (position (w.station + 1)) (record { answer = o; walk = w' })
+        → record { answer = o; state = view w' } ≡ draw_step (view w) c
+    drawn o w' e = e.stepped ∙ sym (step_open (view w) c is_on)
 
-    -- made
-    module _ (m : outcome_of next.answer ≡ made) where
-      is_made_lem : (draw_step (view w) c).answer ≡ made
-      is_made_lem = sym drawn_answer ∙ m
+    next_told : (o : Outcome) → o ≡ (draw_step (view w) c).answer → after_step k o (first_or k moved later) ≡ ahead_of (view w)
+    next_told o e =
+        ap (λ (x : Outcome). after_step k x (first_or k moved later)) e
+        ∙ sym (look_next asked path (vertices n kerb) (view w) inside ∙ ap (λ (j : ℕ). after_step j (draw_step (view w) c).answer (first_or j moved later)) led)
 
-      pub one_on : next.walk.station ≡ w.station + 1
-      one_on = ap (λ (s : Drawn). s.station) drawn_state ∙ (made_step_lem (view w) c is_on is_made_lem).1
+    pub stopped_here : (f : StepRefusal) (w' : Walk) → AdvanceEnsures w (position w.station) (position (w.station + 1)) (record { answer = outcome_of (Err f); walk = w' })
+        → as_report (Err (Stopped (stop_at f k))) ≡ ahead_of (view w)
+    stopped_here f w' e = stop_told f k (first_or k moved later) ∙ next_told (outcome_of (Err f)) (ap (λ (t : Stepped). t.answer) (drawn _ w' e))
 
-      pub same_vehicle : next.walk.vehicle ≡ w.vehicle
+    -- a made one
+    module _ (w' : Walk) (e : AdvanceEnsures w (position w.station) (position (w.station + 1)) (record { answer = made; walk = w' })) where
+      drawn_state : view w' ≡ (draw_step (view w) c).state
+      drawn_state = ap (λ (t : Stepped). t.state) (drawn made w' e)
+
+      drawn_made : made ≡ (draw_step (view w) c).answer
+      drawn_made = ap (λ (t : Stepped). t.answer) (drawn made w' e)
+
+      pub one_on : w'.station ≡ k
+      one_on = ap (λ (s : Drawn). s.station) drawn_state ∙ (made_step_lem (view w) c is_on (sym drawn_made)).1 ∙ led
+
+      same_vehicle : w'.vehicle ≡ w.vehicle
       same_vehicle = ap (λ (s : Drawn). s.vehicle) drawn_state ∙ vehicle_stays (view w) c
 
-      pub still_ahead : Ahead (view next.walk) asked path n kerb
-      still_ahead = record {
-        path = a.path;
-        kerb = a.kerb;
-        stations = a.stations;
-        vertices = a.vertices;
-        rig = subst (λ (s : Drawn). record_sound asked s ≡ true) (sym drawn_state) (made_step_lem (view w) c is_on is_made_lem).0;
-      }
-
-      whole : first_or (w.station + 1) moved later ≡ look_ahead (steps_left asked (view w)) asked path (vertices n kerb) (view w)
-      whole = sym (look_next asked path (vertices n kerb) (view w) h ∙ ap (λ (o : Outcome). after_step (w.station + 1) o (first_or (w.station + 1) moved later)) is_made_lem)
+      pub still_here : Here w' m
+      still_here =
+          record {
+            ahead = record {
+              path = a.ahead.path;
+              kerb = a.ahead.kerb;
+              stations = a.ahead.stations;
+              vertices = a.ahead.vertices;
+              rig = subst (λ (s : Drawn). record_sound asked s ≡ true) (sym drawn_state) (made_step_lem (view w) c is_on (sym drawn_made)).0;
+            };
+            places = ap (λ (v : Vehicle). length v.units) same_vehicle ∙ a.places;
+            count = a.count ∙ sym (ap point_count same_vehicle);
+          }
 
       -- the move of its points, from the walk as it stood to the walk as it stands
-      module _ (touch : Option ℕ) (t : touch ≡ lowest_touch (points_at (view w) c) (points_at (view next.walk) c) (vertices n kerb)) where
-        moved_so : touch ≡ moved
-        moved_so = t ∙ ap (λ (s : Drawn). lowest_touch (points_at (view w) c) (points_at s c) (vertices n kerb)) drawn_state
+      module _ (ps qs : List Vec2) (old : PointsOf w ps) (new : PointsOf w' qs) where
+        moved_so : lowest_touch (take m ps) (take m qs) (vertices n kerb) ≡ moved
+        moved_so =
+            ap₂ (λ (x y : List Vec2). lowest_touch x y (vertices n kerb)) (first w m a ps old) (first w' m still_here qs new)
+            ∙ ap (λ (s : Drawn). lowest_touch (points_at (view w) c) (points_at s c) (vertices n kerb)) drawn_state
 
-        pub touched_here : (p : ℕ) → touch ≡ Some p → R.Touch (w.station + 1) p ≡ look_ahead (steps_left asked (view w)) asked path (vertices n kerb) (view w)
-        touched_here p f = ap (λ (x : Option ℕ). first_or (w.station + 1) x later) (sym f ∙ moved_so) ∙ whole
+        told : (t : Option ℕ) → t ≡ lowest_touch (take m ps) (take m qs) (vertices n kerb) → first_or k t later ≡ ahead_of (view w)
+        told t f = ap (λ (x : Option ℕ). first_or k x later) (f ∙ moved_so) ∙ next_told made drawn_made
 
-        pub clear_here : touch ≡ None
-            → look_ahead (steps_left asked (view next.walk)) asked path (vertices n kerb) (view next.walk) ≡ look_ahead (steps_left asked (view w)) asked path (vertices n kerb) (view w)
+        pub touched_here : (p : ℕ) → Some p ≡ lowest_touch (take m ps) (take m qs) (vertices n kerb) → R.touch k p ≡ ahead_of (view w)
+        touched_here p f = told (Some p) f
+
+        pub clear_here : None ≡ lowest_touch (take m ps) (take m qs) (vertices n kerb) → ahead_of (view w') ≡ ahead_of (view w)
         clear_here f =
-            let left : steps_left asked (view next.walk) ≡ asked - (w.station + 2) = let o = one_on in omega arith in
-            ap (λ (x : ℕ). look_ahead x asked path (vertices n kerb) (view next.walk)) left ∙ ap (look_ahead (asked - (w.station + 2)) asked path (vertices n kerb)) drawn_state
-            ∙ ap (λ (x : Option ℕ). first_or (w.station + 1) x later) (sym f ∙ moved_so) ∙ whole
-
--- the points of a rig, at the start of an array, lie near enough to be looked at
-pub on_map : {v : Vehicle} {ds : List Vec2} {f : Vec2} → RigAt v ds f → {count : ℕ} {l : List Vec2} → count ≡ point_count v → l ≡ sets no_points 0 (rig_points v ds f) → (k : ℕ) → OnMap (get_or (take count l) k zero_vector)
-on_map {v} {ds} {f} a {count} {l} e g k =
-    let p = points_sized a k in
-    let same : get_or (take count l) k zero_vector ≡ get_or (rig_points v ds f) k zero_vector = ap (λ (x : List Vec2). get_or x k zero_vector) (taken_as v a.rig.most ds f e g) in
-    rw same (record { x = p.x; y = p.y })
+            let left : steps_left asked (view w') ≡ asked - (w.station + 2) = let o = one_on in omega arith in
+            ap (λ (x : ℕ). look_ahead x asked path (vertices n kerb) (view w')) left ∙ ap (look_ahead (asked - (w.station + 2)) asked path (vertices n kerb)) drawn_state
+            ∙ told None f

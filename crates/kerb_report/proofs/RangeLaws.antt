@@ -1,6 +1,6 @@
 -- What can stand in a report: which numbers, units, steps and points.
 use Prim.Native.Nat.{ℕ, zero, suc, ◌+◌, ◌≤◌, ◌<◌}
-use mathlib.Core.Path.{◌≡◌, refl}
+use mathlib.Core.Path.{◌≡◌, refl, ap}
 use mathlib.Core.Bool.{Bool, true, false}
 use mathlib.Core.List.{List, [], ◌∷◌}
 use mathlib.Core.Logic.{◌⊎◌, inl, inr}
@@ -27,10 +27,12 @@ use Rattle.run.proofs.StopLaws.{StopsIn, units_stop}
 use Rattle.run.proofs.WalkingLaws.{is_open, made_step_lem}
 use Rattle.kerb_line.specs.Kerb.{KerbRuns, vertices, kerb_lent, kerb_sound}
 use Rattle.kerb_line.specs.Contact.{Segment, segments, touches_one, lowest_from, lowest_touch}
-use Rattle.kerb_report.specs.declared.KerbReport.{KerbReport}
-use Rattle.kerb_report.specs.declared.KerbReport.TheVariants as R
+use Rattle.kerb_report.specs.Answers.{KerbReport}
+use Rattle.kerb_report.specs.Answers as R
 use Rattle.kerb_report.specs.Report.{call_over, first_or, after_step, look_ahead, report_of}
 use Rattle.kerb_report.specs.Ranges.{ReportedSo, ReportEnsures}
+use Rattle.kerb_report.specs.Looking.{report_refusal}
+use Rattle.kerb_report.specs.Requires.{Ahead}
 use Rattle.kerb_report.proofs.LookLaws.{over_lent}
 
 -- a point that touches is one of those that move
@@ -105,7 +107,7 @@ module _ (asked : ℕ) (path : PathRuns) (lent : path_lent asked path ≡ true) 
 
 module _ (s : Drawn) (asked : ℕ) (path : PathRuns) (n : ℕ) (kerb : KerbRuns) where
   by_tests : (a b c d e : Bool) → path_lent asked path ≡ a → path_sound asked path ≡ c → record_sound asked s ≡ e
-      → ReportedSo (pick a (pick b (pick c (pick d (pick e (look_ahead (steps_left asked s) asked path (vertices n kerb) s) (R.Refused 27)) (R.Refused 26)) (R.Refused 26)) (R.Refused 21)) (R.Refused 21))
+      → ReportedSo (pick a (pick b (pick c (pick d (pick e (look_ahead (steps_left asked s) asked path (vertices n kerb) s) (R.refused 27)) (R.refused 26)) (R.refused 26)) (R.refused 21)) (R.refused 21))
   by_tests false b c d e p q r = inl refl
   by_tests true false c d e p q r = inl refl
   by_tests true true false d e p q r = inr (inl refl)
@@ -117,34 +119,38 @@ module _ (s : Drawn) (asked : ℕ) (path : PathRuns) (n : ℕ) (kerb : KerbRuns)
   unfolding report_of
   reported_so = by_tests (path_lent asked path) (kerb_lent n kerb) (path_sound asked path) (kerb_sound n kerb) (record_sound asked s) refl refl refl
 
-  -- the report, test by test
   pub ensured : (r : KerbReport) → r ≡ report_of s asked path n kerb → ReportEnsures s asked path n kerb r
   ensured r e = record { answer = e; ranges = rw e reported_so }
 
-  pub path_short : path_lent asked path ≡ false → R.Refused 21 ≡ report_of s asked path n kerb
+  -- a refusal before any step is the report
+  refused_by : (a b c d e : Bool) (m : ℕ) (r : KerbReport) → m ≡ pick a (pick b (pick c (pick d (pick e 0 27) 26) 26) 21) 21 → (m ≡ 0 → ⊥)
+      → R.refused m ≡ pick a (pick b (pick c (pick d (pick e r (R.refused 27)) (R.refused 26)) (R.refused 26)) (R.refused 21)) (R.refused 21)
+  refused_by false b c d e m r h z = ap R.refused h
+  refused_by true false c d e m r h z = ap R.refused h
+  refused_by true true false d e m r h z = ap R.refused h
+  refused_by true true true false e m r h z = ap R.refused h
+  refused_by true true true true false m r h z = ap R.refused h
+  refused_by true true true true true m r h z = absurd (z h)
+
+  pub refused_first : (m : ℕ) → m ≡ report_refusal s asked path n kerb → (m ≡ 0 → ⊥) → R.refused m ≡ report_of s asked path n kerb
+  unfolding report_refusal report_of
+  refused_first m h z = refused_by (path_lent asked path) (kerb_lent n kerb) (path_sound asked path) (kerb_sound n kerb) (record_sound asked s) m _ h z
+
+  -- without one, all that the look ahead asks was tested
+  passed_by : (a b c d e : Bool) → ◌≡◌ {A = ℕ} 0 (pick a (pick b (pick c (pick d (pick e 0 27) 26) 26) 21) 21) → (a ≡ true) × (b ≡ true) × (c ≡ true) × (d ≡ true) × (e ≡ true)
+  passed_by false b c d e h = absurd (omega arith)
+  passed_by true false c d e h = absurd (omega arith)
+  passed_by true true false d e h = absurd (omega arith)
+  passed_by true true true false e h = absurd (omega arith)
+  passed_by true true true true false h = absurd (omega arith)
+  passed_by true true true true true h = (refl, refl, refl, refl, refl)
+
+  pub passed : 0 ≡ report_refusal s asked path n kerb → Ahead s asked path n kerb
+  unfolding report_refusal
+  passed h =
+      let t = passed_by (path_lent asked path) (kerb_lent n kerb) (path_sound asked path) (kerb_sound n kerb) (record_sound asked s) h in
+      record { path = t.0; kerb = t.1; stations = t.2; vertices = t.3; rig = t.4 }
+
+  pub looked : Ahead s asked path n kerb → look_ahead (steps_left asked s) asked path (vertices n kerb) s ≡ report_of s asked path n kerb
   unfolding report_of
-  path_short e = rw e refl
-
-  module _ (a : path_lent asked path ≡ true) where
-    pub kerb_short_lem : kerb_lent n kerb ≡ false → R.Refused 21 ≡ report_of s asked path n kerb
-    unfolding report_of
-    kerb_short_lem e = rw (a, e) refl
-
-    module _ (b : kerb_lent n kerb ≡ true) where
-      pub path_unsound : path_sound asked path ≡ false → R.Refused 26 ≡ report_of s asked path n kerb
-      unfolding report_of
-      path_unsound e = rw (a, b, e) refl
-
-      module _ (c : path_sound asked path ≡ true) where
-        pub kerb_unsound_lem : kerb_sound n kerb ≡ false → R.Refused 26 ≡ report_of s asked path n kerb
-        unfolding report_of
-        kerb_unsound_lem e = rw (a, b, c, e) refl
-
-        module _ (d : kerb_sound n kerb ≡ true) where
-          pub rig_unsound : record_sound asked s ≡ false → R.Refused 27 ≡ report_of s asked path n kerb
-          unfolding report_of
-          rig_unsound e = rw (a, b, c, d, e) refl
-
-          pub all_passed : record_sound asked s ≡ true → look_ahead (steps_left asked s) asked path (vertices n kerb) s ≡ report_of s asked path n kerb
-          unfolding report_of
-          all_passed e = rw (a, b, c, d, e) refl
+  looked a = rw (a.path, a.kerb, a.stations, a.vertices, a.rig) refl

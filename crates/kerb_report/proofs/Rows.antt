@@ -23,8 +23,8 @@ use Rattle.points.specs.Points.{point_at, rig_points}
 use Rattle.touching.specs.Touch.{ranges_meet, overlap, touches}
 use Rattle.kerb_line.specs.Kerb.{kerb_runs, vertices_from, kerb_lent, kerb_sound}
 use Rattle.kerb_line.specs.Contact.{segments_from, segments, touches_one, lowest_from, lowest_touch}
-use Rattle.kerb_report.specs.declared.KerbReport.{KerbReport}
-use Rattle.kerb_report.specs.declared.KerbReport.TheVariants as R
+use Rattle.kerb_report.specs.Answers.{KerbReport}
+use Rattle.kerb_report.specs.Answers as R
 use Rattle.kerb_report.specs.Report.{look_ahead, report_of}
 
 abbrev vehicle : Vehicle
@@ -51,21 +51,21 @@ row k y n xs ys = report_of (at k) 3 (path_to y) n (kerb_runs xs ys)
 
 record Rows : Type 0 where
   -- a line that the right front corner crosses in step 2, of which it is point 1
-  crossed : row 0 10000 2 (pos 500 ∷ pos 1500 ∷ []) (pos 7000 ∷ pos 7000 ∷ []) ≡ R.Touch 2 1
+  crossed : row 0 10000 2 (pos 500 ∷ pos 1500 ∷ []) (pos 7000 ∷ pos 7000 ∷ []) ≡ R.touch 2 1
   -- a single vertex where it comes to rest, at the end of step 1
-  ended : row 0 10000 1 (pos 1000 ∷ []) (pos 5000 ∷ []) ≡ R.Touch 1 1
+  ended : row 0 10000 1 (pos 1000 ∷ []) (pos 5000 ∷ []) ≡ R.touch 1 1
   -- a tick past where it comes to rest at last
-  missed : row 0 10000 1 (pos 1000 ∷ []) (pos 10001 ∷ []) ≡ R.Nothing
+  missed : row 0 10000 1 (pos 1000 ∷ []) (pos 10001 ∷ []) ≡ R.nothing
   -- none, as at the last station
-  last : row 2 10000 1 (pos 1000 ∷ []) (pos 10000 ∷ []) ≡ R.Nothing
+  last : row 2 10000 1 (pos 1000 ∷ []) (pos 10000 ∷ []) ≡ R.nothing
   -- a second step of more than the wheelbase is refused, and not looked at
-  stopped : row 0 10001 1 (pos 1000 ∷ []) (pos 7000 ∷ []) ≡ R.Stopped 22 1 2
+  stopped : row 0 10001 1 (pos 1000 ∷ []) (pos 7000 ∷ []) ≡ R.stopped 22 1 2
   -- but a touch before it is
-  first : row 0 10001 1 (pos 1000 ∷ []) (pos 5000 ∷ []) ≡ R.Touch 1 1
+  first : row 0 10001 1 (pos 1000 ∷ []) (pos 5000 ∷ []) ≡ R.touch 1 1
   -- no vertex, one too far off, and a station that the path does not have
-  none : row 0 10000 0 (pos 1000 ∷ []) (pos 5000 ∷ []) ≡ R.Refused 21
-  far : row 0 10000 1 (pos 150000001 ∷ []) (pos 5000 ∷ []) ≡ R.Refused 26
-  beyond : row 3 10000 1 (pos 1000 ∷ []) (pos 5000 ∷ []) ≡ R.Refused 27
+  none : row 0 10000 0 (pos 1000 ∷ []) (pos 5000 ∷ []) ≡ R.refused 21
+  far : row 0 10000 1 (pos 150000001 ∷ []) (pos 5000 ∷ []) ≡ R.refused 26
+  beyond : row 3 10000 1 (pos 1000 ∷ []) (pos 5000 ∷ []) ≡ R.refused 27
 
 rows : Rows
 unfolding report_of kerb_lent kerb_sound path_sound station_sound has_length record_sound vehicle_sound vehicle_fault units_fault fault_of vector_sound vectors_sound look_ahead draw_step lent at_last turn_units turned_by too_far hitch_offset fold_allowed half_to nearest_size nearest_z vertices_from point_count body_of front_corner rear_corner corner_of unit_places point_at rig_points lowest_touch lowest_from segments segments_from touches_one touches overlap ranges_meet

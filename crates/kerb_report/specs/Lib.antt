@@ -1,3 +1,4 @@
+pub mod Answers
 pub mod Report
 pub mod Ranges
 pub mod Looking

@@ -4,8 +4,8 @@ use Rattle.marks.specs.Count.{point_capacity}
 use Rattle.path.specs.Laying.{PathRuns}
 use Rattle.walk.specs.Drawn.{Drawn}
 use Rattle.kerb_line.specs.Kerb.{KerbRuns}
-use Rattle.kerb_report.specs.declared.KerbReport.{KerbReport}
-use Rattle.kerb_report.specs.declared.KerbReport.TheVariants as R
+use Rattle.kerb_report.specs.Answers.{KerbReport}
+use Rattle.kerb_report.specs.Answers as R
 use Rattle.kerb_report.specs.Report.{report_of}
 
 -- a step of the path, and a point that the arrays have room for
@@ -21,10 +21,10 @@ pub record StoppedSo (m u k : ℕ) : Type 0 where
 
 -- before any step, by 21, 26 or 27
 abbrev pub ReportedSo : KerbReport → Type 0
-ReportedSo R.Nothing = Unit {0}
-ReportedSo (R.Touch k p) = TouchedSo k p
-ReportedSo (R.Stopped m u k) = StoppedSo m u k
-ReportedSo (R.Refused m) = (m ≡ 21) ⊎ ((m ≡ 26) ⊎ (m ≡ 27))
+ReportedSo R.nothing = Unit {0}
+ReportedSo (R.touch k p) = TouchedSo k p
+ReportedSo (R.stopped m u k) = StoppedSo m u k
+ReportedSo (R.refused m) = (m ≡ 21) ⊎ ((m ≡ 26) ⊎ (m ≡ 27))
 
 pub record ReportEnsures (s : Drawn) (asked : ℕ) (path : PathRuns) (n : ℕ) (kerb : KerbRuns) (r : KerbReport) : Type 0 where
   pub answer : r ≡ report_of s asked path n kerb

@@ -10,8 +10,8 @@ use Rattle.stations.specs.Stepping.{points_at}
 use Rattle.run.specs.Walking.{steps_left}
 use Rattle.kerb_line.specs.Kerb.{KerbRuns, vertices, kerb_lent, kerb_sound}
 use Rattle.kerb_line.specs.Contact.{lowest_touch}
-use Rattle.kerb_report.specs.declared.KerbReport.{KerbReport}
-use Rattle.kerb_report.specs.declared.KerbReport.TheVariants as R
+use Rattle.kerb_report.specs.Answers.{KerbReport}
+use Rattle.kerb_report.specs.Answers as R
 
 -- a step call over a path, on runs as long as the stations asked for; what they hold is not looked at
 abbrev pub call_over : ℕ → PathRuns → Call
@@ -19,18 +19,18 @@ call_over asked path = record { asked = asked; path = path; reaches = record { l
 
 -- the point that touches in a step that leads to station k, or what the steps after it come to
 abbrev pub first_or : ℕ → Option ℕ → KerbReport → KerbReport
-first_or k (Some p) later = R.Touch k p
+first_or k (Some p) later = R.touch k p
 first_or k None later = later
 
 -- "a refused step ends the report with its refusal"; one that names no unit, which no sound path and record meet, would name unit 0
 abbrev pub after_step : ℕ → Outcome → KerbReport → KerbReport
 after_step k made r = r
-after_step k (refused n) r = R.Stopped n 0 k
-after_step k (refused_at n u) r = R.Stopped n u k
+after_step k (refused n) r = R.stopped n 0 k
+after_step k (refused_at n u) r = R.stopped n u k
 
 -- the next n steps of a walk: "or none, as at the last station"
 unfoldable pub look_ahead : ℕ → ℕ → PathRuns → List Vec2 → Drawn → KerbReport
-look_ahead zero asked path kerb s = R.Nothing
+look_ahead zero asked path kerb s = R.nothing
 look_ahead (suc n) asked path kerb s =
     let c = call_over asked path in
     let t = draw_step s c in
@@ -46,8 +46,8 @@ report_of s asked path n kerb =
     (pick (kerb_sound n kerb)
     (pick (record_sound asked s)
     (look_ahead (steps_left asked s) asked path (vertices n kerb) s)
-    (R.Refused 27))
-    (R.Refused 26))
-    (R.Refused 26))
-    (R.Refused 21))
-    (R.Refused 21)
+    (R.refused 27))
+    (R.refused 26))
+    (R.refused 26))
+    (R.refused 21))
+    (R.refused 21)

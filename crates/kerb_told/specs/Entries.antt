@@ -3,15 +3,15 @@ use Rattle.std.specs.Prelude.{[], ◌∷◌, pos}
 use Rattle.answer_run.specs.Answers.{Told, told, at_byte, at_unit}
 use Rattle.kerb_reader.specs.Answers.{KerbRead}
 use Rattle.kerb_reader.specs.Answers as R
-use Rattle.kerbed.specs.declared.Kerbed.{Kerbed}
-use Rattle.kerbed.specs.declared.Kerbed.TheVariants as K
+use Rattle.kerbed.specs.Answers.{Kerbed}
+use Rattle.kerbed.specs.Answers as K
 
 -- 1 with the step and the point of a touch, zeros without one
 abbrev pub touch_told : Kerbed → Told
-touch_told K.Nothing = told 0 (pos 0 ∷ pos 0 ∷ pos 0 ∷ [])
-touch_told (K.Touch step point) = told 0 (pos 1 ∷ pos step ∷ pos point ∷ [])
-touch_told (K.Stopped n u k) = told (at_unit n u k) []
-touch_told (K.Refused n p) = told (at_byte n p) []
+touch_told K.nothing = told 0 (pos 0 ∷ pos 0 ∷ pos 0 ∷ [])
+touch_told (K.touch step point) = told 0 (pos 1 ∷ pos step ∷ pos point ∷ [])
+touch_told (K.stopped n u k) = told (at_unit n u k) []
+touch_told (K.refused n p) = told (at_byte n p) []
 
 -- how many vertices stand in the two runs
 abbrev pub ticks_told : KerbRead → Told

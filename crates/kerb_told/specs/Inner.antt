@@ -3,8 +3,8 @@ use Rattle.std.specs.Prelude.{ℕ, ◌≤◌}
 use Rattle.answer_run.specs.Inner.{Room, ByteFits, UnitFits}
 use Rattle.kerb_reader.specs.Answers.{KerbRead}
 use Rattle.kerb_reader.specs.Answers as R
-use Rattle.kerbed.specs.declared.Kerbed.{Kerbed}
-use Rattle.kerbed.specs.declared.Kerbed.TheVariants as K
+use Rattle.kerbed.specs.Answers.{Kerbed}
+use Rattle.kerbed.specs.Answers as K
 
 -- a step and a point that an entry holds
 pub record TouchFits (k p : ℕ) : Type 0 where
@@ -12,10 +12,10 @@ pub record TouchFits (k p : ℕ) : Type 0 where
   pub point : p ≤ 19
 
 abbrev pub KerbedFits : Kerbed → Type 0
-KerbedFits K.Nothing = Unit {0}
-KerbedFits (K.Touch k p) = TouchFits k p
-KerbedFits (K.Stopped n u k) = UnitFits u k
-KerbedFits (K.Refused n p) = ByteFits p
+KerbedFits K.nothing = Unit {0}
+KerbedFits (K.touch k p) = TouchFits k p
+KerbedFits (K.stopped n u k) = UnitFits u k
+KerbedFits (K.refused n p) = ByteFits p
 
 pub record AnswerFits (a : Kerbed) (n : ℕ) : Type 0 where
   pub room : Room 0 3 n

@@ -6,19 +6,21 @@ pub mod ticks;
 
 ghost use Rattle.answer_text.specs.Answers.{TextIs};
 ghost use Rattle.answer_text.specs.Appending.{nothing, Line};
+ghost use Rattle.kerbed.specs.Answers.{as_kerbed};
 ghost use Rattle.kerb_told.specs.Printed.{touch_line, none_line, printed_kerb};
 ghost use Rattle.kerb_told.specs.Forms.{KerbForms};
 
 use answer_text::Text;
-use kerbed::Kerbed;
+use kerb_report::Touch;
+use swept::SweepRefusal;
 
-// Kept: the casts, because u64 has no From of a usize.
-fn touch_text(step: usize, point: usize) -> Text
-    ensures { Line nothing (touch_line step point) 48 result }
+fn touch_text(touch: Touch) -> Text
+    ensures { Line nothing (touch_line touch.step touch.point) 48 result }
 {
+    // Kept: the new form is no plainer: u64 has no From of a usize, and try_from would answer an error that cannot come.
     Text::empty()
-        .put_number(b"touch ", step as u64)
-        .put_number(b" ", point as u64)
+        .put_number(b"touch ", touch.step as u64)
+        .put_number(b" ", touch.point as u64)
         .put_words(b"\n")
 }
 
@@ -29,14 +31,18 @@ fn none_text() -> Text
 }
 
 // Any answer's line: the longest of them fits.
-pub fn kerb_text(k: Kerbed) -> Text
-    ensures { TextIs (printed_kerb k) result }
+pub fn kerb_text(k: Result<Option<Touch>, SweepRefusal>) -> Text
+    ensures { TextIs (printed_kerb (as_kerbed k)) result }
 {
     match k {
-        Kerbed::Nothing => none_text(),
-        Kerbed::Touch(step, point) => touch_text(step, point),
-        Kerbed::Stopped(number, unit, step) => answer_text::stopped_text(number, unit, step),
-        Kerbed::Refused(number, byte) => answer_text::refused_text(number, byte),
+        Ok(None) => none_text(),
+        Ok(Some(touch)) => touch_text(touch),
+        Err(SweepRefusal::Stopped(stop)) => {
+            answer_text::stopped_text(stop.fault.number(), stop.unit, stop.step)
+        }
+        Err(SweepRefusal::Refused(refusal)) => {
+            answer_text::refused_text(refusal.fault.number(), refusal.place)
+        }
     }
 }
 

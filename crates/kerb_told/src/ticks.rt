@@ -15,7 +15,7 @@ pub fn tell_ticks(k: Result<usize, KerbRefusal>, answer: &mut [i64]) -> u32
 {
     match k {
         Ok(n) => {
-            // Kept: the cast, because i64 has no From of a usize.
+            // Kept: the new form is no plainer: i64 has no From of a usize, and try_from would answer an error that cannot come.
             answer[0] = n as i64;
             0
         }

@@ -10,13 +10,14 @@ use lib.ListN.{length}
 use lib.IntN.{ℤ}
 use Rattle.std.specs.Prelude.{Ok, Err}
 use Rattle.refusal.specs.Numbers.{number_of}
-use Rattle.refusal.specs.declared.Refusal.{Refusal}
 use Rattle.number.specs.Read.{Read, got, refused, pick}
 use Rattle.number.proofs.FieldCodec.{and}
 use Rattle.job.specs.declared.Job.{Job}
 use Rattle.job.specs.Faults.{judge}
 use Rattle.job_reader.specs.Answers.{ReadEnsures}
 use Rattle.job_writer.proofs.RoundTrip.{read_written}
+use Rattle.swept.specs.declared.SweepRefusal.{SweepRefusal}
+use Rattle.swept.specs.declared.SweepRefusal.TheVariants as W
 use Rattle.swept.proofs.RangeLaws.{refused_so}
 use Rattle.kerb_line.specs.Kerb.{KerbRuns, kerb_runs, vertex_at, kerb_lent, vertex_sound, kerb_sound}
 use Rattle.kerb_reader.specs.declared.Survey.{Survey}
@@ -26,11 +27,11 @@ use Rattle.kerb_reader.specs.Ticks.{room_in, east_ticks, north_ticks, kerb_answe
 use Rattle.kerb_reader.specs.Claims.{KerbWithin}
 use Rattle.kerb_reader.proofs.Limits.{read_within_lem, count_is, kerb_within}
 use Rattle.kerb_reader.proofs.Places.{first_bytes_lem as geometry-first}
-use Rattle.kerbed.specs.declared.Kerbed.{Kerbed}
-use Rattle.kerbed.specs.declared.Kerbed.TheVariants as K
+use Rattle.kerbed.specs.Answers.{Kerbed, as_kerbed}
+use Rattle.kerbed.specs.Answers as K
 use Rattle.kerbed.specs.Kerbed.{kerbed_job, kerbed_ticks, no_ticks, survey_runs, kerbed_survey, kerbed_read, kerbed_of}
 use Rattle.kerbed.specs.Ranges.{KerbedSo, TicksEnsures, BytesSo, KerbedEnsures}
-use Rattle.kerbed.specs.Inner.{Faultless, JobEnsures, SurveyEnsures}
+use Rattle.kerbed.specs.Inner.{Faultless, AcceptedEnsures, JobEnsures, SurveyEnsures}
 use Rattle.kerbed.specs.Claims.{ReadPasses}
 use Rattle.kerbed.proofs.KerbedLaws.{clash, job_passes}
 
@@ -84,11 +85,11 @@ pub read_passes_lem : ReadPasses
 read_passes_lem s xs ys n xs' ys' k = within_passes n xs' ys' (kerb_within s xs ys n xs' ys' k)
 
 -- so an answer about it is no refusal
-bytes_so : (a : Kerbed) → KerbedSo a → ((n p : ℕ) → a ≡ K.Refused n p → ⊥) → BytesSo a
-bytes_so K.Nothing h k = tt
-bytes_so (K.Touch s p) h k = h
-bytes_so (K.Stopped n u s) h k = h
-bytes_so (K.Refused n p) h k = absurd (k n p refl)
+bytes_so : (a : Kerbed) → KerbedSo a → ((n p : ℕ) → a ≡ K.refused n p → ⊥) → BytesSo a
+bytes_so K.nothing h k = tt
+bytes_so (K.touch s p) h k = h
+bytes_so (K.stopped n u s) h k = h
+bytes_so (K.refused n p) h k = absurd (k n p refl)
 
 module _ (j : Job) (sound : judge j ≡ 0) (g : List ℕ) where
   pub read_told : (n : ℕ) (xs ys : List ℤ) (r : Kerbed) → KerbEnsures g no_ticks no_ticks (Ok n) xs ys → JobEnsures j n (kerb_runs xs ys) r → SurveyEnsures j g r
@@ -99,10 +100,10 @@ module _ (j : Job) (sound : judge j ≡ 0) (g : List ℕ) where
         ranges = bytes_so r t.ranges (λ m q e. job_passes j sound n (kerb_runs xs ys) p.0 p.1 m q (sym t.answer ∙ e));
       }
 
-  pub refused_told_so : (n p : ℕ) → R.refused_at n p ≡ kerb_answer (read_geometry g) no_ticks no_ticks → SurveyEnsures j g (K.Refused n p)
+  pub refused_told_so : (n p : ℕ) → R.refused_at n p ≡ kerb_answer (read_geometry g) no_ticks no_ticks → SurveyEnsures j g (K.refused n p)
   refused_told_so n p k = by (read_geometry g) refl k
     where
-      by : (x : Read Survey) → read_geometry g ≡ x → R.refused_at n p ≡ kerb_answer x no_ticks no_ticks → SurveyEnsures j g (K.Refused n p)
+      by : (x : Read Survey) → read_geometry g ≡ x → R.refused_at n p ≡ kerb_answer x no_ticks no_ticks → SurveyEnsures j g (K.refused n p)
       by (got v e) q z = absurd (refused_told j (room_in (length (vertices_of v)) no_ticks no_ticks) v n p z)
       by (refused m b) q z =
           let y : (m ≡ n) × (b ≡ p) = (cc, cc) in
@@ -115,21 +116,21 @@ module _ (s : List ℕ) (j : Job) (k : ReadEnsures s (Ok j)) where
   pub faultless : Faultless j
   faultless = record { judged = (read_written s j (length s) k.bytes (sym k.answer)).judged }
 
-  pub ticks_told_lem : (n : ℕ) (kerb : KerbRuns) (r : Kerbed) → JobEnsures j n kerb r → TicksEnsures s n kerb r
-  ticks_told_lem n kerb r t = record { answer = t.answer ∙ ap (λ (x : Read Job). kerbed_ticks x n kerb) k.answer; ranges = t.ranges }
-
   pub geometry_told : (g : List ℕ) (r : Kerbed) → SurveyEnsures j g r → KerbedEnsures s g r
   unfolding kerbed_of
   geometry_told g r t = record { answer = t.answer ∙ ap (λ (x : Read Job). kerbed_read x (read_geometry g)) k.answer; ranges = t.ranges }
 
-module _ (s : List ℕ) (f : Refusal) (k : ReadEnsures s (Err f)) where
-  pub ticks_refused : (n : ℕ) (kerb : KerbRuns) → TicksEnsures s n kerb (K.Refused (number_of f.fault) f.place)
-  ticks_refused n kerb =
+-- or refused
+module _ (s : List ℕ) where
+  pub ticks_refused : (e : SweepRefusal) → AcceptedEnsures s (Err e) → (n : ℕ) (kerb : KerbRuns) → TicksEnsures s n kerb (as_kerbed (Err e))
+  ticks_refused (W.Stopped t) k n kerb = absurd k
+  ticks_refused (W.Refused f) k n kerb =
       let h = refused_so s (number_of f.fault) f.place (sym k.answer) in
       record { answer = ap (λ (x : Read Job). kerbed_ticks x n kerb) k.answer; ranges = inl (h.number.0, h.number.1, h.near) }
 
-  pub geometry_refused : (g : List ℕ) → KerbedEnsures s g (K.Refused (number_of f.fault) f.place)
+  pub geometry_refused : (e : SweepRefusal) → AcceptedEnsures s (Err e) → (g : List ℕ) → KerbedEnsures s g (as_kerbed (Err e))
   unfolding kerbed_of
-  geometry_refused g =
+  geometry_refused (W.Stopped t) k g = absurd k
+  geometry_refused (W.Refused f) k g =
       let h = refused_so s (number_of f.fault) f.place (sym k.answer) in
       record { answer = ap (λ (x : Read Job). kerbed_read x (read_geometry g)) k.answer; ranges = inl (h.number.0, h.number.1, h.near) }

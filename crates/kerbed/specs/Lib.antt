@@ -1,3 +1,4 @@
+pub mod Answers
 pub mod Kerbed
 pub mod Ranges
 pub mod Inner

@@ -3,8 +3,8 @@ use Rattle.std.specs.Prelude.{ℕ, ◌≤◌, ◌≡◌, ◌⊎◌, List}
 use Rattle.job_reader.specs.Record.{read_job}
 use Rattle.swept.specs.Ranges.{StoppedSo}
 use Rattle.kerb_line.specs.Kerb.{KerbRuns}
-use Rattle.kerbed.specs.declared.Kerbed.{Kerbed}
-use Rattle.kerbed.specs.declared.Kerbed.TheVariants as K
+use Rattle.kerbed.specs.Answers.{Kerbed}
+use Rattle.kerbed.specs.Answers as K
 use Rattle.kerbed.specs.Kerbed.{kerbed_ticks, kerbed_of}
 
 -- at a step of the path, counted from 1, by a point of the rig
@@ -17,10 +17,10 @@ abbrev pub RefusedSo : ℕ → ℕ → Type 0
 RefusedSo n p = ((1 ≤ n) × (n ≤ 10) × (p ≤ 1024)) ⊎ (((n ≡ 21) ⊎ (n ≡ 26)) × (p ≡ 0))
 
 abbrev pub KerbedSo : Kerbed → Type 0
-KerbedSo K.Nothing = Unit {0}
-KerbedSo (K.Touch k p) = TouchSo k p
-KerbedSo (K.Stopped n u k) = StoppedSo n u k
-KerbedSo (K.Refused n p) = RefusedSo n p
+KerbedSo K.nothing = Unit {0}
+KerbedSo (K.touch k p) = TouchSo k p
+KerbedSo (K.stopped n u k) = StoppedSo n u k
+KerbedSo (K.refused n p) = RefusedSo n p
 
 -- what `check_ticks` ensures of a job's bytes s and a kerb of n vertices
 pub record TicksEnsures (s : List ℕ) (n : ℕ) (kerb : KerbRuns) (r : Kerbed) : Type 0 where
@@ -32,10 +32,10 @@ abbrev pub BytesRefusedSo : ℕ → ℕ → Type 0
 BytesRefusedSo n p = ((1 ≤ n) × (n ≤ 10) × (p ≤ 1024)) ⊎ (((n ≡ 12) ⊎ (n ≡ 13)) × (p ≤ 8009))
 
 abbrev pub BytesSo : Kerbed → Type 0
-BytesSo K.Nothing = Unit {0}
-BytesSo (K.Touch k p) = TouchSo k p
-BytesSo (K.Stopped n u k) = StoppedSo n u k
-BytesSo (K.Refused n p) = BytesRefusedSo n p
+BytesSo K.nothing = Unit {0}
+BytesSo (K.touch k p) = TouchSo k p
+BytesSo (K.stopped n u k) = StoppedSo n u k
+BytesSo (K.refused n p) = BytesRefusedSo n p
 
 -- what `check_geometry` ensures of a job's bytes s and a geometry's bytes g
 pub record KerbedEnsures (s g : List ℕ) (r : Kerbed) : Type 0 where

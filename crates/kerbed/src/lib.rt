@@ -2,122 +2,98 @@
 #![tactic(auto)]
 
 ghost use Rattle.std.specs.Prelude.{◌≡◌};
-ghost use Rattle.refusal.specs.Numbers.{number_of};
 ghost use Rattle.path.specs.Lent.{path_of};
-ghost use Rattle.kerb_line.specs.Kerb.{kerb_runs};
+ghost use Rattle.kerb_line.specs.Lent.{runs_of};
+ghost use Rattle.kerb_report.specs.Answers.{as_report};
+ghost use Rattle.kerbed.specs.Answers.{as_kerbed};
 ghost use Rattle.kerb_report.specs.Ranges.{ReportEnsures};
-ghost use Rattle.kerbed.specs.Kerbed.{report_told, placed_rig};
+ghost use Rattle.kerbed.specs.Kerbed.{placed_rig};
 ghost use Rattle.kerbed.specs.Ranges.{TicksEnsures, KerbedEnsures};
-ghost use Rattle.kerbed.specs.Inner.{Placeable, Faultless, JobEnsures, SurveyEnsures};
+ghost use Rattle.kerbed.specs.Inner.{Placeable, Faultless, AcceptedEnsures, JobEnsures, SurveyEnsures};
 ghost use Rattle.kerbed.specs.Claims.{FirstBytes, ReadPasses};
 
 use job::Job;
+use kerb_line::Kerb;
 use kerb_reader::KerbRefusal;
-use kerb_report::KerbReport;
+use kerb_report::Touch;
 use path::{Path, PathRoom};
-use refusal::{Fault, Refusal};
-
-// No touch; the first step that touches and its lowest point; stopped at a step, with the refusal, the unit and the step; or refused, with the byte where the field starts (0 beside 21 and 26).
-#[derive(Clone, Copy)]
-pub enum Kerbed {
-    Nothing,
-    Touch(usize, usize),
-    Stopped(u8, usize, usize),
-    Refused(u8, usize),
-}
-
-fn report_told(report: KerbReport) -> Kerbed
-    ensures { result ≡ report_told report }
-{
-    match report {
-        KerbReport::Nothing => Kerbed::Nothing,
-        KerbReport::Touch(step, point) => Kerbed::Touch(step, point),
-        KerbReport::Stopped(number, unit, step) => Kerbed::Stopped(number, unit, step),
-        KerbReport::Refused(number) => Kerbed::Refused(number, 0),
-    }
-}
+use refusal::Fault;
+use run::RunRefusal;
+use swept::SweepRefusal;
 
 // The report of a vehicle placed at station 0 of a laid path.
-fn placed_report(
-    j: Job,
-    asked: usize,
-    path: Path,
-    n: usize,
-    kerb_xs: &[i32],
-    kerb_ys: &[i32],
-) -> KerbReport
+fn placed_report(j: Job, asked: usize, path: Path, kerb: Kerb) -> Result<Option<Touch>, RunRefusal>
     requires { Placeable j asked (path_of path) }
     ensures { ReportEnsures (placed_rig j (path_of path.entry)) asked
         (path_of path.entry)
-        n
-        (kerb_runs kerb_xs.now kerb_ys.now)
-        result }
+        kerb.entry.count
+        (runs_of kerb.entry)
+        (as_report result) }
 {
-    let Path { xs, ys, gxs, gys } = path;
-    let start = walk::tests::station_at(xs, ys, gxs, gys, 0);
+    let start = walk::tests::station_at(path, 0);
     let w = walk::moving::start(j.vehicle, start.heading);
-    kerb_report::report(w, asked, xs, ys, gxs, gys, n, kerb_xs, kerb_ys)
+    kerb_report::report(w, asked, path, kerb)
 }
 
 // The path is laid in runs of its own, with room for any.
-fn report_job(j: Job, n: usize, kerb_xs: &[i32], kerb_ys: &[i32]) -> Kerbed
+fn report_job(j: Job, kerb: Kerb) -> Result<Option<Touch>, SweepRefusal>
     requires { Faultless j }
-    ensures { JobEnsures j n (kerb_runs kerb_xs.now kerb_ys.now) result }
+    ensures { JobEnsures j kerb.entry.count (runs_of kerb.entry) (as_kerbed result) }
 {
-    let mut xs = [0i32; 2001];
-    let mut ys = [0i32; 2001];
-    let mut gxs = [0i32; 2001];
-    let mut gys = [0i32; 2001];
     let mut room = PathRoom {
-        xs: &mut xs,
-        ys: &mut ys,
-        gxs: &mut gxs,
-        gys: &mut gys,
+        xs: &mut [0i32; 2001],
+        ys: &mut [0i32; 2001],
+        gxs: &mut [0i32; 2001],
+        gys: &mut [0i32; 2001],
     };
     match path::lay(j, &mut room) {
-        Ok(asked) => report_told(placed_report(j, asked, room.laid(), n, kerb_xs, kerb_ys)),
-        Err(fault) => Kerbed::Refused(fault.number(), 0),
+        Ok(asked) => placed_report(j, asked, room.laid(), kerb).map_err(swept::run_refused),
+        Err(fault) => Err(SweepRefusal::Refused(fault.at(0))),
     }
 }
 
-fn refused_at(refusal: Refusal) -> Kerbed
-    ensures { result ≡ Kerbed.Refused (number_of refusal.fault) refusal.place }
+// The job that the bytes are, or its refusal.
+fn read(job: &[u8]) -> Result<Job, SweepRefusal>
+    ensures { AcceptedEnsures job.now result }
 {
-    Kerbed::Refused(refusal.fault.number(), refusal.place)
+    job_reader::read_job(job).map_err(SweepRefusal::Refused)
 }
 
 // A job's bytes and a kerb's ticks: the job's refusal comes first, then the kerb's, then the walk's.
-pub fn check_ticks(job: &[u8], n: usize, kerb_xs: &[i32], kerb_ys: &[i32]) -> Kerbed
-    ensures { TicksEnsures job.now n (kerb_runs kerb_xs.now kerb_ys.now) result }
+pub fn check_ticks(job: &[u8], kerb: Kerb) -> Result<Option<Touch>, SweepRefusal>
+    ensures { TicksEnsures job.now kerb.entry.count (runs_of kerb.entry) (as_kerbed result) }
 {
-    match job_reader::read_job(job) {
-        Ok(j) => report_job(j, n, kerb_xs, kerb_ys),
-        Err(refusal) => refused_at(refusal),
-    }
+    let j = read(job)?;
+    report_job(j, kerb)
 }
 
 // The kerb is read into runs of its own, with room for any.
-fn survey_job(j: Job, geometry: &[u8]) -> Kerbed
+fn survey_job(j: Job, geometry: &[u8]) -> Result<Option<Touch>, SweepRefusal>
     requires { Faultless j }
-    ensures { SurveyEnsures j geometry.now result }
+    ensures { SurveyEnsures j geometry.now (as_kerbed result) }
 {
     let mut xs = [0i32; 500];
     let mut ys = [0i32; 500];
     match kerb_reader::read_kerb(geometry, &mut xs, &mut ys) {
-        Ok(n) => report_job(j, n, &xs, &ys),
-        Err(KerbRefusal::Field(refusal)) => refused_at(refusal),
-        Err(KerbRefusal::NoRoom) => Kerbed::Refused(Fault::RunTooShort.number(), 0),
+        Ok(count) => report_job(
+            j,
+            Kerb {
+                count,
+                xs: &xs,
+                ys: &ys,
+            },
+        ),
+        Err(KerbRefusal::Field(refusal)) => Err(SweepRefusal::Refused(refusal)),
+        Err(KerbRefusal::NoRoom) => Err(SweepRefusal::Refused(Fault::RunTooShort.at(0))),
     }
 }
 
 // A job's bytes and a geometry's: the job's refusal comes before the kerb's.
-pub fn check_geometry(job: &[u8], geometry: &[u8]) -> Kerbed
-    ensures { KerbedEnsures job.now geometry.now result }
+pub fn check_geometry(job: &[u8], geometry: &[u8]) -> Result<Option<Touch>, SweepRefusal>
+    ensures { KerbedEnsures job.now geometry.now (as_kerbed result) }
 {
-    match job_reader::read_job(job) {
-        Ok(j) => survey_job(j, geometry),
-        Err(refusal) => refused_at(refusal),
-    }
+    let j = read(job)?;
+    survey_job(j, geometry)
 }
 
 // Claim: of longer inputs the first 1,024 bytes of the job and the first 8,010 of the geometry decide the answer.

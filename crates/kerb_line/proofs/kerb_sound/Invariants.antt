@@ -2,8 +2,9 @@
 use mathlib.Core.Path.{◌≡◌}
 use mathlib.Core.Bool.{true}
 use lib.ListN.{length}
-use Rattle.kerb_line.specs.Kerb.{kerb_runs, kerb_sound}
+use Rattle.kerb_line.specs.Kerb.{kerb_sound}
+use Rattle.kerb_line.specs.Lent.{runs_of}
 use Rattle.kerb_line.proofs.kerb_sound.Given as goal
 
 abbrev pub invariant-loop-x : goal.invariant-loop-x
-invariant-loop-x l = kerb_sound (length l.yielded) (kerb_runs l.xs l.ys) ≡ true
+invariant-loop-x l = kerb_sound (length l.yielded) (runs_of l.kerb) ≡ true

@@ -11,7 +11,8 @@ use Rattle.walk.specs.Moving.{StartReady}
 use Rattle.walk.proofs.PathTests.{path_station, station_lent}
 use Rattle.walk.proofs.RecordTests.{lent_path}
 use Rattle.walk.proofs.ReadyLaws.{start_ready}
-use Rattle.kerb_line.specs.Kerb.{kerb_runs}
+use Rattle.kerb_line.specs.Lent.{runs_of}
+use Rattle.kerb_report.specs.Answers.{as_report}
 use Rattle.kerb_report.specs.Ranges.{ReportEnsures}
 use Rattle.kerbed.proofs.placed_report.Goals as goal
 
@@ -32,5 +33,5 @@ start-w-requires c =
 pub returns : goal.returns
 returns c =
     let a = c.args in
-    subst (λ (d : Drawn). ReportEnsures d a.asked (path_of a.path) a.n (kerb_runs a.kerb_xs.now a.kerb_ys.now) c.report.result)
+    subst (λ (d : Drawn). ReportEnsures d a.asked (path_of a.path) a.kerb.count (runs_of a.kerb) (as_report c.report.result))
     (c.start-w.ensures ∙ ap (λ (z : Station). drawn_start a.j.vehicle z.heading) c.station_at-start.ensures) c.report.ensures

@@ -3,7 +3,7 @@ use mathlib.Core.Path.{sym, subst}
 use Rattle.std.specs.Prelude.{Ok}
 use Rattle.path.specs.Laying.{LayEnsures}
 use Rattle.swept.specs.Swept.{empty_path}
-use Rattle.kerbed.proofs.KerbedLaws.{laid_not_refused, placeable, job_told}
+use Rattle.kerbed.proofs.KerbedLaws.{laid_not_refused, placeable, told_over, job_told}
 use Rattle.kerbed.proofs.report_job.Goals as goal
 
 pub placed_report-requires : goal.placed_report-requires
@@ -18,7 +18,7 @@ unfolding empty_path
 returns-in-Ok c =
     let j = c.args.j in
     let n = c.in-Ok.asked in
-    job_told j c.requires.judged n _ (subst (LayEnsures j empty_path (Ok n)) (sym c.laid.ensures) c.in-Ok.ensures.laid) _ _ _ _ c.placed_report.ensures c.report_told.ensures
+    job_told j c.requires.judged n _ (subst (LayEnsures j empty_path (Ok n)) (sym c.laid.ensures) c.in-Ok.ensures.laid) _ _ _ _ c.placed_report.ensures (told_over c.placed_report.result c.map_err.result c.map_err.ensures.cases)
 
 pub returns-in-Err : goal.returns-in-Err
 unfolding empty_path

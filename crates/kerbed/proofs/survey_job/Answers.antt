@@ -21,7 +21,7 @@ unfolding no_ticks
 returns-in-Err-Field c =
     let a = c.args in
     let r = c.in-Err-Field in
-    rw (c.refused_at.ensures, r.refusal-is) (refused_told_so a.j c.requires.judged a.geometry.now (number_of r.refusal.fault) r.refusal.place (ap (λ (x : KerbRefusal). as_kerb (Err x)) (sym r.field-0-is) ∙ c.in-Err-Field.ensures.answer))
+    rw r.refusal-is (refused_told_so a.j c.requires.judged a.geometry.now (number_of r.refusal.fault) r.refusal.place (ap (λ (x : KerbRefusal). as_kerb (Err x)) (sym r.field-0-is) ∙ c.in-Err-Field.ensures.answer))
 
 pub returns-in-Err-NoRoom : goal.returns-in-Err-NoRoom
 unfolding no_ticks
