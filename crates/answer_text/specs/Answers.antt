@@ -1,6 +1,6 @@
 -- What the text of an answer ensures: the printed bytes, their number, and nothing but zeros after them.
 use Rattle.std.specs.Prelude.{ℕ, ◌-◌, ◌≤◌, ◌≡◌, List, length, take, drop, replicate}
-use Rattle.swept.specs.declared.Swept.{Swept}
+use Rattle.swept.specs.Answers.{Swept}
 use Rattle.answer_text.specs.Printed.{printed}
 use Rattle.answer_text.specs.declared.Text.{Text}
 

@@ -1,15 +1,13 @@
 -- What the program prints (01, "Rigs to try"). Every line ends in a line feed.
-use Rattle.std.specs.Prelude.{ℕ, List, ◌++◌, ℤ}
+use Rattle.std.specs.Prelude.{ℕ, List, ◌++◌, ℤ, Option, None, Some}
 use Prim.Native.String.{String}
 use Rattle.text.specs.Ascii.{ascii}
 use Rattle.text.specs.Decimal.{decimal, signed_decimal}
 use Rattle.plane.specs.declared.Vec2.{Vec2}
 use Rattle.reaches.specs.declared.Place.{Place}
-use Rattle.reaches.specs.declared.Best.{Best}
-use Rattle.reaches.specs.declared.Best.TheVariants as B
 use Rattle.run.specs.declared.Finish.{Finish}
-use Rattle.swept.specs.declared.Swept.{Swept}
-use Rattle.swept.specs.declared.Swept.TheVariants as S
+use Rattle.swept.specs.Answers.{Swept}
+use Rattle.swept.specs.Answers as S
 
 -- a number after the words that stand before it
 abbrev pub after : String → ℕ → List ℕ
@@ -27,9 +25,9 @@ abbrev pub place_line : Place → List ℕ
 place_line p = after "widest " p.station ++ signed_after " " p.width ++ signed_after " " p.left ++ signed_after " " p.right ++ ascii "\n"
 
 -- without a complete station: widest none
-abbrev pub widest_line : Best → List ℕ
-widest_line B.Nothing = ascii "widest none\n"
-widest_line (B.Found p) = place_line p
+abbrev pub widest_line : Option Place → List ℕ
+widest_line None = ascii "widest none\n"
+widest_line (Some p) = place_line p
 
 -- front 0 65000
 abbrev pub front_line : Vec2 → List ℕ
@@ -47,6 +45,6 @@ abbrev pub stopped_line : ℕ → ℕ → ℕ → List ℕ
 stopped_line number unit step = after "refused " number ++ after " unit " unit ++ after " step " step ++ ascii "\n"
 
 unfoldable pub printed : Swept → List ℕ
-printed (S.Finished f) = finished_lines f
-printed (S.Stopped number unit step) = stopped_line number unit step
-printed (S.Refused number byte) = refused_line number byte
+printed (S.finished f) = finished_lines f
+printed (S.stopped number unit step) = stopped_line number unit step
+printed (S.refused number byte) = refused_line number byte

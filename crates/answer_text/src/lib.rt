@@ -5,6 +5,7 @@ pub mod settings;
 
 ghost use Rattle.std.specs.Prelude.{◌≡◌, ◌≤◌, ◌++◌, ◌+◌, length, take};
 ghost use Rattle.text.specs.Decimal.{decimal, signed_decimal};
+ghost use Rattle.swept.specs.Answers.{as_swept};
 ghost use Rattle.answer_text.specs.Printed.{steps_line, place_line, widest_line, front_line, finished_lines, refused_line, stopped_line};
 ghost use Rattle.answer_text.specs.Appending.{nothing, Line};
 ghost use Rattle.answer_text.specs.Answers.{TextEnsures};
@@ -12,12 +13,12 @@ ghost use Rattle.answer_text.specs.Inner.{Space};
 ghost use Rattle.answer_text.specs.Forms.{PrintedForms};
 
 use plane::Vec2;
-use reaches::{Best, Place};
+use reaches::Place;
 use run::Finish;
-use swept::Swept;
+use swept::SweepRefusal;
 
 // The lines stand at the start of the array; zeros stand after them.
-// Kept: an array with its count, because there is no heap and the zeros are promised.
+// Kept: a rule of the project needs an array with its count: there is no heap, and the zeros are promised.
 #[derive(Clone, Copy)]
 pub struct Text {
     pub bytes: [u8; 192],
@@ -25,6 +26,7 @@ pub struct Text {
 }
 
 impl Text {
+    #[tactic(auto, unfolding(crate::specs::Appending::nothing))]
     pub fn empty() -> Text
         ensures value { result ≡ nothing }
         ensures length { result.length ≡ 0 }
@@ -64,7 +66,7 @@ impl Text {
     }
 
     // The same of a signed number, with its sign.
-    // Kept: beside `put_number`, because a trait over both numbers would be longer than the one line in which they differ.
+    // Kept: the new form is no plainer: a trait over both numbers would be longer than the one line in which they differ.
     fn put_signed(self, words: &[u8], z: i64) -> Text
         requires { Space self (length words.now + 20) }
         ensures { Line self (words.now ++ signed_decimal z) (length words.now + 20) result }
@@ -75,11 +77,11 @@ impl Text {
         worded
     }
 
-    // Kept: the cast, here and below, because u64 has no From of a usize.
     fn put_steps(self, steps: usize) -> Text
         requires { Space self 27 }
         ensures { Line self (steps_line steps) 27 result }
     {
+        // Kept: the new form is no plainer: u64 has no From of a usize, and try_from would answer an error that cannot come.
         self.put_number(b"steps ", steps as u64).put_words(b"\n")
     }
 
@@ -87,6 +89,7 @@ impl Text {
         requires { Space self 91 }
         ensures { Line self (place_line p) 91 result }
     {
+        // Kept: the cast, for the reason given in `put_steps`.
         self.put_number(b"widest ", p.station as u64)
             .put_signed(b" ", p.width)
             .put_signed(b" ", p.left)
@@ -94,13 +97,14 @@ impl Text {
             .put_words(b"\n")
     }
 
-    fn put_widest(self, best: Best) -> Text
+    #[tactic(auto, using(crate::proofs::LineLaws::within), unfolding(text::specs::Ascii::ascii))]
+    fn put_widest(self, best: Option<Place>) -> Text
         requires { Space self 91 }
         ensures { Line self (widest_line best) 91 result }
     {
         match best {
-            Best::Nothing => self.put_words(b"widest none\n"),
-            Best::Found(p) => self.put_place(p),
+            None => self.put_words(b"widest none\n"),
+            Some(p) => self.put_place(p),
         }
     }
 
@@ -124,21 +128,23 @@ fn finished_text(f: Finish) -> Text
         .put_front(f.front)
 }
 
-// Kept: a refusal's number, because it is printed as one and a narrower type would ask more of callers.
+// Kept: the new form is no plainer: a refusal is printed as a number, and a narrower type would ask more of callers.
 pub fn refused_text(number: u8, byte: usize) -> Text
     ensures { Line nothing (refused_line number byte) 53 result }
 {
+    // Kept: the cast, for the reason given in `put_steps`.
     Text::empty()
         .put_number(b"refused ", u64::from(number))
         .put_number(b" at ", byte as u64)
         .put_words(b"\n")
 }
 
-// Kept: the number, for the same reason.
+// Kept: the number, for the reason given at `refused_text`.
 pub fn stopped_text(number: u8, unit: usize, step: usize) -> Text
     ensures { Line nothing (stopped_line number unit step) 81 result }
 {
     Text::empty()
+        // Kept: the casts, for the reason given in `put_steps`.
         .put_number(b"refused ", u64::from(number))
         .put_number(b" unit ", unit as u64)
         .put_number(b" step ", step as u64)
@@ -146,17 +152,22 @@ pub fn stopped_text(number: u8, unit: usize, step: usize) -> Text
 }
 
 // Any answer's lines: the widest of them fit.
-pub fn text_of(s: Swept) -> Text
-    ensures { TextEnsures s result }
+pub fn text_of(s: Result<Finish, SweepRefusal>) -> Text
+    ensures { TextEnsures (as_swept s) result }
 {
     match s {
-        Swept::Finished(f) => finished_text(f),
-        Swept::Stopped(number, unit, step) => stopped_text(number, unit, step),
-        Swept::Refused(number, byte) => refused_text(number, byte),
+        Ok(f) => finished_text(f),
+        Err(SweepRefusal::Stopped(stop)) => {
+            stopped_text(stop.fault.number(), stop.unit, stop.step)
+        }
+        Err(SweepRefusal::Refused(refusal)) => {
+            refused_text(refusal.fault.number(), refusal.place)
+        }
     }
 }
 
 // Claim: the printed forms of document 01, word for word.
+#[tactic(auto, using(crate::proofs::Rows::printed_forms_lem))]
 pub fn printed_forms()
     ensures { PrintedForms }
 {}

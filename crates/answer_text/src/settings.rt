@@ -1,5 +1,8 @@
 // The settings that a job is offered, a line each, or why there are none.
 ghost use Rattle.std.specs.Prelude.{◌++◌};
+ghost use Rattle.refusal.specs.Numbers.{number_of};
+ghost use Rattle.ranking.specs.Ranking.{as_list};
+ghost use Rattle.offered.specs.Answers.{as_offered};
 ghost use Rattle.answer_text.specs.Answers.{TextIs};
 ghost use Rattle.answer_text.specs.Appending.{nothing, Line};
 ghost use Rattle.answer_text.specs.Inner.{Space};
@@ -7,8 +10,9 @@ ghost use Rattle.answer_text.specs.Settings.{setting_line, number_line, listed_l
 ghost use Rattle.answer_text.specs.Forms.{SettingForms};
 
 use crate::{Text, refused_text};
-use offered::Offered;
-use ranking::{Listed, Setting};
+use offered::OfferRefusal;
+use ranking::{Setting, Shortlist};
+use refusal::Fault;
 
 impl Text {
     fn put_setting(self, s: Setting) -> Text
@@ -21,38 +25,40 @@ impl Text {
     }
 }
 
-// Kept: a refusal's number, because it is printed as one and the list that it comes from has it so.
-fn numbered_text(number: u8) -> Text
-    ensures { Line nothing (number_line number) 29 result }
+fn fault_text(fault: Fault) -> Text
+    ensures { Line nothing (number_line (number_of fault)) 29 result }
 {
     Text::empty()
-        .put_number(b"refused ", u64::from(number))
+        .put_number(b"refused ", u64::from(fault.number()))
         .put_words(b"\n")
 }
 
 // Best first, as they stand in the list.
-fn listed_text(l: Listed) -> Text
-    ensures { Line nothing (listed_lines l) 150 result }
+fn listed_text(l: Shortlist) -> Text
+    ensures { Line nothing (listed_lines (as_list l)) 150 result }
 {
     match l {
-        Listed::One(a) => Text::empty().put_setting(a),
-        Listed::Two(a, b) => Text::empty().put_setting(a).put_setting(b),
-        Listed::Three(a, b, c) => Text::empty().put_setting(a).put_setting(b).put_setting(c),
-        Listed::Refused(number) => numbered_text(number),
+        Shortlist::One(a) => Text::empty().put_setting(a),
+        Shortlist::Two(a, b) => Text::empty().put_setting(a).put_setting(b),
+        Shortlist::Three(a, b, c) => Text::empty().put_setting(a).put_setting(b).put_setting(c),
     }
 }
 
 // Any list's lines, or any refusal's: the longest of them fit.
-pub fn settings_text(o: Offered) -> Text
-    ensures { TextIs (printed_settings o) result }
+pub fn settings_text(o: Result<Shortlist, OfferRefusal>) -> Text
+    ensures { TextIs (printed_settings (as_offered o)) result }
 {
     match o {
-        Offered::Listed(l) => listed_text(l),
-        Offered::Refused(number, byte) => refused_text(number, byte),
+        Ok(l) => listed_text(l),
+        Err(OfferRefusal::List(fault)) => fault_text(fault),
+        Err(OfferRefusal::Record(refusal)) => {
+            refused_text(refusal.fault.number(), refusal.place)
+        }
     }
 }
 
 // Claim: the printed forms of N1, word for word.
+#[tactic(auto, using(crate::proofs::Rows::setting_forms_lem))]
 pub fn setting_forms()
     ensures { SettingForms }
 {}

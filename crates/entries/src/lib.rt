@@ -7,13 +7,13 @@ ghost use Rattle.std.specs.Prelude.{◌≡◌, [], ◌∷◌, length};
 ghost use Rattle.std.proofs.lemmas.List.Edits.{sets};
 ghost use Rattle.answer_run.specs.Answers.{TellEnsures};
 ghost use Rattle.answer_run.specs.Inner.{Room};
+ghost use Rattle.swept.specs.Answers.{as_swept};
 ghost use Rattle.entries.specs.Answers.{sweep_told, finish_entries};
 ghost use Rattle.entries.specs.Inner.{FinishFits, AnswerFits};
 ghost use Rattle.entries.specs.Worked.{WorkedEntries};
 
-use reaches::Best;
 use run::Finish;
-use swept::Swept;
+use swept::SweepRefusal;
 
 // The first eight entries of a run.
 fn put_eight(run: &mut [i64], a: i64, b: i64, c: i64, d: i64, e: i64, f: i64, g: i64, h: i64)
@@ -31,12 +31,13 @@ fn put_finish(run: &mut [i64], finish: Finish)
     requires { FinishFits finish (length run.old) }
     ensures { run.new ≡ sets run.old 0 (finish_entries finish) }
 {
-    // Kept: the casts, because i64 has no From of a usize.
+    // Kept: the new form is no plainer: i64 has no From of a usize, and try_from would answer an error that cannot come.
     let steps = finish.steps as i64;
     let front = finish.front;
     match finish.widest {
-        Best::Nothing => put_eight(run, steps, 0, 0, 0, 0, 0, front.x, front.y),
-        Best::Found(p) => {
+        None => put_eight(run, steps, 0, 0, 0, 0, 0, front.x, front.y),
+        Some(p) => {
+            // Kept: the cast, for the reason given above.
             let station = p.station as i64;
             put_eight(
                 run, steps, 1, station, p.width, p.left, p.right, front.x, front.y,
@@ -46,17 +47,21 @@ fn put_finish(run: &mut [i64], finish: Finish)
 }
 
 // An answer's number; its entries are written where the walk is finished, and only there.
-pub fn tell_sweep(swept: Swept, answer: &mut [i64]) -> u32
-    requires { AnswerFits swept (length answer.old) }
-    ensures { TellEnsures (sweep_told swept) answer.old result answer.new }
+pub fn tell_sweep(swept: Result<Finish, SweepRefusal>, answer: &mut [i64]) -> u32
+    requires { AnswerFits (as_swept swept) (length answer.old) }
+    ensures { TellEnsures (sweep_told (as_swept swept)) answer.old result answer.new }
 {
     match swept {
-        Swept::Finished(finish) => {
+        Ok(finish) => {
             put_finish(answer, finish);
             0
         }
-        Swept::Stopped(number, unit, step) => answer_run::at_unit(number, unit, step),
-        Swept::Refused(number, byte) => answer_run::at_byte(number, byte),
+        Err(SweepRefusal::Stopped(stop)) => {
+            answer_run::at_unit(stop.fault.number(), stop.unit, stop.step)
+        }
+        Err(SweepRefusal::Refused(refusal)) => {
+            answer_run::at_byte(refusal.fault.number(), refusal.place)
+        }
     }
 }
 

@@ -3,11 +3,13 @@ ghost use Rattle.std.specs.Prelude.{◌≡◌, length};
 ghost use Rattle.std.proofs.lemmas.List.Edits.{sets};
 ghost use Rattle.answer_run.specs.Answers.{TellEnsures};
 ghost use Rattle.answer_run.specs.Inner.{Room};
+ghost use Rattle.ranking.specs.Ranking.{as_list};
+ghost use Rattle.offered.specs.Answers.{as_offered};
 ghost use Rattle.entries.specs.Lists.{no_setting, setting_entries, three_entries, list_told, settings_told};
 ghost use Rattle.entries.specs.Inner.{OfferFits};
 
-use offered::Offered;
-use ranking::{Listed, Setting};
+use offered::OfferRefusal;
+use ranking::{Setting, Shortlist};
 
 // What stands where no setting is listed.
 fn no_setting() -> Setting
@@ -38,34 +40,36 @@ fn put_list(run: &mut [i64], n: i64, a: Setting, b: Setting, c: Setting)
 }
 
 // A list's number; its entries are written where there is a setting to list, and only there.
-fn tell_list(listed: Listed, answer: &mut [i64]) -> u32
+fn tell_list(listed: Shortlist, answer: &mut [i64]) -> u32
     requires { Room 0 7 (length answer.old) }
-    ensures { TellEnsures (list_told listed) answer.old result answer.new }
+    ensures { TellEnsures (list_told (as_list listed)) answer.old result answer.new }
 {
     match listed {
-        Listed::One(a) => {
+        Shortlist::One(a) => {
             put_list(answer, 1, a, no_setting(), no_setting());
             0
         }
-        Listed::Two(a, b) => {
+        Shortlist::Two(a, b) => {
             put_list(answer, 2, a, b, no_setting());
             0
         }
-        Listed::Three(a, b, c) => {
+        Shortlist::Three(a, b, c) => {
             put_list(answer, 3, a, b, c);
             0
         }
-        Listed::Refused(number) => u32::from(number),
     }
 }
 
 // The list, or the number of what is refused, with the byte where that is the record.
-pub fn tell_offered(offered: Offered, answer: &mut [i64]) -> u32
-    requires { OfferFits offered (length answer.old) }
-    ensures { TellEnsures (settings_told offered) answer.old result answer.new }
+pub fn tell_offered(offered: Result<Shortlist, OfferRefusal>, answer: &mut [i64]) -> u32
+    requires { OfferFits (as_offered offered) (length answer.old) }
+    ensures { TellEnsures (settings_told (as_offered offered)) answer.old result answer.new }
 {
     match offered {
-        Offered::Listed(listed) => tell_list(listed, answer),
-        Offered::Refused(number, byte) => answer_run::at_byte(number, byte),
+        Ok(listed) => tell_list(listed, answer),
+        Err(OfferRefusal::List(fault)) => u32::from(fault.number()),
+        Err(OfferRefusal::Record(refusal)) => {
+            answer_run::at_byte(refusal.fault.number(), refusal.place)
+        }
     }
 }

@@ -46,6 +46,7 @@ fn run<R: Read, W: Write>(
     job_input::write_answer(stdout, text.as_bytes())
 }
 
+// Kept: the new form is no plainer: `settings` has the same one call, with another name and another `run`.
 fn main(rt: HostRuntime) {
     job_input::tell_failure(&rt, "kerb", run(rt, &mut rt.stdin(), &mut rt.stdout()));
 }

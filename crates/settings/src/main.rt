@@ -7,6 +7,7 @@ ghost use Rattle.answer_text.specs.Answers.{TextIs};
 ghost use Rattle.answer_text.specs.Settings.{printed_settings};
 
 use answer_text::Text;
+use bogie::Rail;
 use std::io::{Read, Write};
 use std::rt::Env;
 
@@ -14,10 +15,10 @@ use std::rt::Env;
 const EXPECTED: &str =
     "expected three numbers up to 4294967295: lowest wheelbase, pitch, number of settings";
 
-fn answer(input: &[u8], lowest: u32, pitch: u32, number: u32) -> Text
-    ensures { TextIs (printed_settings (offered_of input.now (record { lowest = lowest; pitch = pitch; number = number }))) result }
+fn answer(input: &[u8], rail: Rail) -> Text
+    ensures { TextIs (printed_settings (offered_of input.now rail)) result }
 {
-    answer_text::settings::settings_text(offered::list_job(input, lowest, pitch, number))
+    answer_text::settings::settings_text(offered::list_job(input, rail))
 }
 
 // An argument as a number. Linux passes none of 131,072 bytes or more, so every one fits; one that is missing is no number, and an empty one neither.
@@ -36,15 +37,18 @@ fn run<R: Read, W: Write>(
     if job_input::has_argument(rt, 4) {
         return Err(EXPECTED);
     }
-    let lowest = argument(rt, 1).ok_or(EXPECTED)?;
-    let pitch = argument(rt, 2).ok_or(EXPECTED)?;
-    let number = argument(rt, 3).ok_or(EXPECTED)?;
+    let rail = Rail {
+        lowest: argument(rt, 1).ok_or(EXPECTED)?,
+        pitch: argument(rt, 2).ok_or(EXPECTED)?,
+        number: argument(rt, 3).ok_or(EXPECTED)?,
+    };
     let mut input = [0u8; 1024];
     let count = job_input::read_standard_input(stdin, &mut input)?;
-    let text = answer(&input[..count], lowest, pitch, number);
+    let text = answer(&input[..count], rail);
     job_input::write_answer(stdout, text.as_bytes())
 }
 
+// Kept: the new form is no plainer: `kerb` has the same one call, with another name and another `run`.
 fn main(rt: HostRuntime) {
     job_input::tell_failure(&rt, "settings", run(rt, &mut rt.stdin(), &mut rt.stdout()));
 }

@@ -6,6 +6,7 @@ use mathlib.Core.List.{List}
 use mathlib.Core.Logic.{◌⊎◌}
 use native.Mathlib.Omega.{arith}
 use lib.ListN.{length, take, length-take}
+use Rattle.std.specs.Prelude.{Option, None, Some}
 use Rattle.number.specs.Read.{refused as refusedRead}
 use Rattle.number.proofs.PlaceLaws.{Inside}
 use Rattle.job.specs.declared.Job.{Job}
@@ -25,8 +26,7 @@ use Rattle.walk.specs.Rig.{start_vectors, Stepped, turning_of, after_turning, dr
 use Rattle.walk.proofs.StartKept.{few_units}
 use Rattle.walk.proofs.RecordTests.{sound_record}
 use Rattle.run.proofs.StopLaws.{StopsIn, units_stop}
-use Rattle.reaches.specs.declared.Best.{Best}
-use Rattle.reaches.specs.declared.Best.TheVariants.{Nothing, Found}
+use Rattle.reaches.specs.declared.Place.{Place}
 use Rattle.reaches.specs.Cells.{Reaches, lengths_of, cleared}
 use Rattle.marks.specs.Count.{point_count}
 use Rattle.reaches.specs.Widest.{widest_among}
@@ -37,8 +37,8 @@ use Rattle.stations.specs.Placing.{call_of}
 use Rattle.stations.specs.Stepping.{points_at, if_made}
 use Rattle.stations.proofs.CallLaws.{step_open}
 use Rattle.run.specs.Walking.{Course, walk_on, Going}
-use Rattle.run.specs.declared.Ran.{Ran}
-use Rattle.run.specs.declared.Ran.TheVariants as R
+use Rattle.run.specs.Ran.{Ran}
+use Rattle.run.specs.Ran as R
 use Rattle.run.specs.Run.{ran_by, ran_over, job_path, job_course, Runnable}
 use Rattle.run.proofs.WalkingLaws.{same_call, is_open, made_step_lem}
 use Rattle.run.proofs.OverLaws.{some_asked, placed_going}
@@ -91,9 +91,9 @@ module _ (asked : ℕ) (path : PathRuns) where
 
 -- what a run can answer where nothing is refused
 abbrev pub RanSo : Ran → Type 0
-RanSo (R.Finished f) = FinishedSo f
-RanSo (R.Stopped n u k) = StoppedSo n u k
-RanSo (R.Refused n) = ⊥
+RanSo (R.finished f) = FinishedSo f
+RanSo (R.stopped n u k) = StoppedSo n u k
+RanSo (R.refused n) = ⊥
 
 -- an accepted job's walk on runs with room, from its placement to its end
 module _ (j : Job) (sound : judge j ≡ 0) (p : PathRuns) (r : Reaches) (room : room_for (length (stations j)) p ≡ true) (lent : reaches_lent (length (stations j)) (lengths_of r) ≡ true) where
@@ -120,9 +120,9 @@ module _ (j : Job) (sound : judge j ≡ 0) (p : PathRuns) (r : Reaches) (room : 
   widest_so : (n : ℕ) (q : Reaches) → OnPath (widest_among n asked q)
   widest_so n q = by (widest_among n asked q) (among_right n asked q)
     where
-      by : (b : Best) → Right n asked q b → OnPath b
-      by Nothing h = tt
-      by (Found f) h = omega (arith, h.inside, (sound_path j sound).most)
+      by : (b : Option Place) → Right n asked q b → OnPath b
+      by None h = tt
+      by (Some f) h = omega (arith, h.inside, (sound_path j sound).most)
 
   pub ran_so : RanSo (ran_over asked path course)
   ran_so = by course.answer course.state course.runs walk_so

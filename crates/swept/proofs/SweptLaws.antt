@@ -6,7 +6,7 @@ use mathlib.Core.List.{List}
 use mathlib.Core.Logic.{inl, inr}
 use borrow.Author.Tests.{le-leb, eq-eqb}
 use lib.ListN.{length}
-use Rattle.std.specs.Prelude.{Ok, Err}
+use Rattle.std.specs.Prelude.{Result, Ok, Err, MatchResult, IsErrAnd}
 use Rattle.refusal.specs.Numbers.{number_of}
 use Rattle.refusal.specs.declared.Refusal.{Refusal}
 use Rattle.number.specs.Read.{Bytes, Read, got, refused, pick}
@@ -21,12 +21,15 @@ use Rattle.path.specs.Laying.{PathRuns, room_for}
 use Rattle.path.proofs.SoundLaws.{sound_path}
 use Rattle.walk.specs.Tests.{reaches_lent}
 use Rattle.reaches.specs.Cells.{Reaches, lengths_of}
-use Rattle.run.specs.declared.Ran.{Ran}
-use Rattle.run.specs.declared.Ran.TheVariants as R
+use Rattle.run.specs.declared.Finish.{Finish}
+use Rattle.run.specs.declared.RunRefusal.{RunRefusal}
+use Rattle.run.specs.Ran.{Ran, as_ran}
+use Rattle.run.specs.Ran as R
 use Rattle.run.specs.Run.{ran_over, ran_answer, job_path, job_course, run_refusal, RunEnsures}
 use Rattle.run.proofs.RunLaws.{all_passed}
-use Rattle.swept.specs.declared.Swept.{Swept}
-use Rattle.swept.specs.declared.Swept.TheVariants as S
+use Rattle.swept.specs.declared.SweepRefusal.{SweepRefusal}
+use Rattle.swept.specs.Answers.{Swept, as_swept}
+use Rattle.swept.specs.Answers as S
 use Rattle.swept.specs.Swept.{empty_path, empty_reaches, swept_run, swept_job, swept_read, swept_of, swept_into, path_into, reaches_into}
 use Rattle.swept.specs.Ranges.{AnsweredSo, SweptEnsures, IntoSo, IntoEnsures}
 use Rattle.swept.proofs.RangeLaws.{RanSo, ran_so, refused_so}
@@ -51,14 +54,14 @@ abbrev whole : Job → PathRuns → Reaches → Ran
 whole j p r = ran_over (length (stations j)) (job_path j p) (job_course j p r)
 
 ran_answered : (s : List ℕ) (a : Ran) → RanSo a → AnsweredSo s (swept_run a)
-ran_answered s (R.Finished f) h = h
-ran_answered s (R.Stopped n u k) h = h
-ran_answered s (R.Refused n) h = absurd h
+ran_answered s (R.finished f) h = h
+ran_answered s (R.stopped n u k) h = h
+ran_answered s (R.refused n) h = absurd h
 
-pub answered_into : (s : List ℕ) (a : Swept) → AnsweredSo s a → IntoSo s a
-answered_into s (S.Finished f) h = h
-answered_into s (S.Stopped n u k) h = h
-answered_into s (S.Refused n p) h = inl h
+answered_into : (s : List ℕ) (a : Swept) → AnsweredSo s a → IntoSo s a
+answered_into s (S.finished f) h = h
+answered_into s (S.stopped n u k) h = h
+answered_into s (S.refused n p) h = inl h
 
 -- the answer on these runs, by how the bytes read
 module _ (s : List ℕ) (bytes : Bytes s) where
@@ -107,12 +110,19 @@ module _ (s : List ℕ) (bytes : Bytes s) (p : PathRuns) (r : Reaches) where
     ranges = subst (IntoSo s) (sym f) (into_so x e);
   }
 
+-- a run's answer with what refused it told over
+run_told : (a : Result Finish RunRefusal) (b : Result Finish SweepRefusal) → MatchResult a (λ f. b ≡ Ok f) (λ e. IsErrAnd b (λ x. as_swept (Err x) ≡ swept_run (as_ran (Err e)))) → as_swept b ≡ swept_run (as_ran a)
+run_told (Ok f) b h = ap as_swept h
+run_told (Err e) (Ok f) h = absurd h
+run_told (Err e) (Err x) h = h
+
 -- what `read_job` and `run` ensure, put together
 module _ (s : List ℕ) (p : PathRuns) (r : Reaches) where
-  pub refused_tells : (e : Refusal) → ReadEnsures s (Err e) → (n : ℕ) → n ≡ number_of e.fault → IntoEnsures s p r (S.Refused n e.place) p r
-  refused_tells e k n h =
-      into s k.bytes p r _ _ _ (refused (number_of e.fault) e.place) (sym k.answer)
-      (ap (λ (m : ℕ). S.Refused m e.place) h) refl refl
+  pub refused_tells : (e : Refusal) → ReadEnsures s (Err e) → IntoEnsures s p r (S.refused (number_of e.fault) e.place) p r
+  refused_tells e k = into s k.bytes p r _ _ _ (refused (number_of e.fault) e.place) (sym k.answer) refl refl refl
 
-  pub accepted_tells : (j : Job) → ReadEnsures s (Ok j) → (answer : Ran) (p' : PathRuns) (r' : Reaches) → RunEnsures j p r answer p' r' → IntoEnsures s p r (swept_run answer) p' r'
-  accepted_tells j k answer p' r' t = into s k.bytes p r _ _ _ (got j (length s)) (sym k.answer) (ap swept_run t.answered) t.path t.reaches
+  pub accepted_tells : (j : Job) → ReadEnsures s (Ok j) → (answer : Result Finish RunRefusal) (p' : PathRuns) (r' : Reaches) → RunEnsures j p r (as_ran answer) p' r'
+      → (told : Result Finish SweepRefusal) → MatchResult answer (λ f. told ≡ Ok f) (λ e. IsErrAnd told (λ x. as_swept (Err x) ≡ swept_run (as_ran (Err e)))) → IntoEnsures s p r (as_swept told) p' r'
+  accepted_tells j k answer p' r' t told m =
+      into s k.bytes p r _ _ _ (got j (length s)) (sym k.answer)
+      (run_told answer told m ∙ ap swept_run t.answered) t.path t.reaches

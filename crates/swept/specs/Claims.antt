@@ -1,6 +1,6 @@
 -- The claim about a job's answer, over what `sweep_job` ensures.
 use Rattle.std.specs.Prelude.{ℕ, ◌≡◌, List, take}
-use Rattle.swept.specs.declared.Swept.{Swept}
+use Rattle.swept.specs.Answers.{Swept}
 use Rattle.swept.specs.Ranges.{SweptEnsures}
 
 -- "The program sweep reads one job, at most 1,024 bytes" (01, "Rigs to try")

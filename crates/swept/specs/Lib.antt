@@ -1,3 +1,4 @@
+pub mod Answers
 pub mod Swept
 pub mod Ranges
 pub mod Claims

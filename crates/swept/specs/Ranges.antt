@@ -1,19 +1,18 @@
 -- What stands beside an answer (01, "Why a job is turned down", "Drawing the units"): which numbers, and how large units, steps, stations and bytes can be.
-use Rattle.std.specs.Prelude.{ℕ, ◌≤◌, ◌≡◌, ◌⊎◌, List, length}
+use Rattle.std.specs.Prelude.{ℕ, ◌≤◌, ◌≡◌, ◌⊎◌, List, length, Option, None, Some}
 use Rattle.job_reader.specs.Record.{read_job}
 use Rattle.path.specs.Laying.{PathRuns}
 use Rattle.reaches.specs.Cells.{Reaches}
-use Rattle.reaches.specs.declared.Best.{Best}
-use Rattle.reaches.specs.declared.Best.TheVariants.{Nothing, Found}
+use Rattle.reaches.specs.declared.Place.{Place}
 use Rattle.run.specs.declared.Finish.{Finish}
-use Rattle.swept.specs.declared.Swept.{Swept}
-use Rattle.swept.specs.declared.Swept.TheVariants as S
+use Rattle.swept.specs.Answers.{Swept}
+use Rattle.swept.specs.Answers as S
 use Rattle.swept.specs.Swept.{swept_of, swept_into, path_into, reaches_into}
 
 -- the widest place is at a station of the path
-abbrev pub OnPath : Best → Type 0
-OnPath Nothing = Unit {0}
-OnPath (Found p) = p.station ≤ 2000
+abbrev pub OnPath : Option Place → Type 0
+OnPath None = Unit {0}
+OnPath (Some p) = p.station ≤ 2000
 
 pub record FinishedSo (f : Finish) : Type 0 where
   pub steps : f.steps ≤ 2000
@@ -32,9 +31,9 @@ pub record RefusedSo (s : List ℕ) (n p : ℕ) : Type 0 where
   pub near : p ≤ 1024
 
 abbrev pub AnsweredSo : List ℕ → Swept → Type 0
-AnsweredSo s (S.Finished f) = FinishedSo f
-AnsweredSo s (S.Stopped n u k) = StoppedSo n u k
-AnsweredSo s (S.Refused n p) = RefusedSo s n p
+AnsweredSo s (S.finished f) = FinishedSo f
+AnsweredSo s (S.stopped n u k) = StoppedSo n u k
+AnsweredSo s (S.refused n p) = RefusedSo s n p
 
 -- what `sweep_job` ensures of the bytes s
 pub record SweptEnsures (s : List ℕ) (r : Swept) : Type 0 where
@@ -43,9 +42,9 @@ pub record SweptEnsures (s : List ℕ) (r : Swept) : Type 0 where
 
 -- on a caller's runs 21 can stand there too, without a byte
 abbrev pub IntoSo : List ℕ → Swept → Type 0
-IntoSo s (S.Finished f) = FinishedSo f
-IntoSo s (S.Stopped n u k) = StoppedSo n u k
-IntoSo s (S.Refused n p) = RefusedSo s n p ⊎ ((n ≡ 21) × (p ≡ 0))
+IntoSo s (S.finished f) = FinishedSo f
+IntoSo s (S.stopped n u k) = StoppedSo n u k
+IntoSo s (S.refused n p) = RefusedSo s n p ⊎ ((n ≡ 21) × (p ≡ 0))
 
 -- what `sweep_into` ensures of the bytes s: the answer, and the seven runs
 pub record IntoEnsures (s : List ℕ) (p : PathRuns) (r : Reaches) (a : Swept) (p' : PathRuns) (r' : Reaches) : Type 0 where

@@ -7,11 +7,11 @@ use Rattle.path.specs.Stations.{stations}
 use Rattle.path.specs.Laying.{PathRuns, path_runs}
 use Rattle.reaches.specs.Cells.{Reaches, reach_runs}
 use Rattle.stations.specs.Placing.{unless_refused}
-use Rattle.run.specs.declared.Ran.{Ran}
-use Rattle.run.specs.declared.Ran.TheVariants as R
+use Rattle.run.specs.Ran.{Ran}
+use Rattle.run.specs.Ran as R
 use Rattle.run.specs.Run.{ran_over, run_refusal, ran_answer, job_path, job_course}
-use Rattle.swept.specs.declared.Swept.{Swept}
-use Rattle.swept.specs.declared.Swept.TheVariants as S
+use Rattle.swept.specs.Answers.{Swept}
+use Rattle.swept.specs.Answers as S
 
 -- runs of zeros, with an entry for every station that a path can have
 unfoldable pub empty_path : PathRuns
@@ -22,9 +22,9 @@ empty_reaches = reach_runs (replicate 2001 (pos 0)) (replicate 2001 (pos 0)) (re
 
 -- the same answer; 21 names no byte, and byte 0 stands beside it
 abbrev pub swept_run : Ran → Swept
-swept_run (R.Finished f) = S.Finished f
-swept_run (R.Stopped n u k) = S.Stopped n u k
-swept_run (R.Refused n) = S.Refused n 0
+swept_run (R.finished f) = S.finished f
+swept_run (R.stopped n u k) = S.stopped n u k
+swept_run (R.refused n) = S.refused n 0
 
 -- the walk of an accepted job over its own path
 unfoldable pub swept_job : Job → Swept
@@ -33,7 +33,7 @@ swept_job j = swept_run (ran_over (length (stations j)) (job_path j empty_path) 
 -- "A refused job prints only" its number and byte
 abbrev pub swept_read : Read Job → Swept
 swept_read (got j e) = swept_job j
-swept_read (refused n p) = S.Refused n p
+swept_read (refused n p) = S.refused n p
 
 unfoldable pub swept_of : List ℕ → Swept
 swept_of s = swept_read (read_job s)
@@ -41,7 +41,7 @@ swept_of s = swept_read (read_job s)
 -- on a caller's runs: what the reader refuses writes nothing; an accepted job is run, and its answer and the seven runs are that run's
 abbrev pub swept_into : Read Job → PathRuns → Reaches → Swept
 swept_into (got j e) p r = swept_run (ran_answer (run_refusal j p r) (ran_over (length (stations j)) (job_path j p) (job_course j p r)))
-swept_into (refused n b) p r = S.Refused n b
+swept_into (refused n b) p r = S.refused n b
 
 abbrev pub path_into : Read Job → PathRuns → Reaches → PathRuns
 path_into (got j e) p r = unless_refused (run_refusal j p r) (job_path j p) p

@@ -1,72 +1,75 @@
 // From a job's bytes to the answer that is printed.
 #![tactic(auto)]
 
-ghost use Rattle.std.specs.Prelude.{◌≡◌};
-ghost use Rattle.path.specs.Laying.{path_runs};
-ghost use Rattle.reaches.specs.Cells.{reach_runs};
+ghost use Rattle.std.specs.Prelude.{◌≡◌, Err};
+ghost use Rattle.path.specs.Lent.{room_runs, SameLoans as SamePathLoans};
+ghost use Rattle.reaches.specs.Lent.{room_reaches, SameLoans};
+ghost use Rattle.run.specs.Ran.{as_ran};
+ghost use Rattle.swept.specs.Answers.{as_swept};
 ghost use Rattle.swept.specs.Swept.{swept_run};
 ghost use Rattle.swept.specs.Ranges.{IntoEnsures, SweptEnsures};
 ghost use Rattle.swept.specs.Claims.{FirstBytes};
 
-use run::{Finish, Ran};
+use path::PathRoom;
+use reaches::ReachRoom;
+use refusal::Refusal;
+use run::{Finish, RunRefusal, Stop};
 
-// Finished; stopped at a step, with the refusal, the unit and the step, both counted from 1; or refused, with the byte where the field starts (0 beside 21).
-#[derive(Clone, Copy)]
-pub enum Swept {
-    Finished(Finish),
-    Stopped(u8, usize, usize),
-    Refused(u8, usize),
+// Stopped at a step; or refused, with the byte where the field starts (0 beside 21).
+// Kept: the new form is no plainer: this is the error of a Result already, and either of the two is a refusal.
+#[derive(Clone, Copy, PartialEq, Eq)]
+pub enum SweepRefusal {
+    Stopped(Stop),
+    Refused(Refusal),
 }
 
-// What the run of an accepted job came to; 21 names no byte.
-fn run_told(ran: Ran) -> Swept
-    ensures { result ≡ swept_run ran }
+// What refused the run of an accepted job; 21 names no byte.
+pub fn run_refused(refusal: RunRefusal) -> SweepRefusal
+    ensures { as_swept (Err result) ≡ swept_run (as_ran (Err refusal)) }
 {
-    match ran {
-        Ran::Finished(finish) => Swept::Finished(finish),
-        Ran::Stopped(number, unit, step) => Swept::Stopped(number, unit, step),
-        Ran::Refused(number) => Swept::Refused(number, 0),
+    match refusal {
+        RunRefusal::Stopped(stop) => SweepRefusal::Stopped(stop),
+        RunRefusal::Refused(fault) => SweepRefusal::Refused(fault.at(0)),
     }
 }
 
 // The job is read and run on seven lent runs. A refusal, the reader's or 21, writes nothing; the steps that a stopped walk made stay.
 pub fn sweep_into(
     bytes: &[u8],
-    xs: &mut [i32],
-    ys: &mut [i32],
-    gxs: &mut [i32],
-    gys: &mut [i32],
-    left: &mut [i32],
-    right: &mut [i32],
-    marks: &mut [marks::Mark],
-) -> Swept
-    ensures { IntoEnsures bytes.now
-        (path_runs xs.old ys.old gxs.old gys.old)
-        (reach_runs left.old right.old marks.old)
-        result
-        (path_runs xs.new ys.new gxs.new gys.new)
-        (reach_runs left.new right.new marks.new) }
+    path_room: &mut PathRoom,
+    room: &mut ReachRoom,
+) -> Result<Finish, SweepRefusal>
+    ensures path_loans { SamePathLoans path_room.old path_room.new }
+    ensures loans { SameLoans room.old room.new }
+    ensures swept { IntoEnsures bytes.now
+        (room_runs path_room.old)
+        (room_reaches room.old)
+        (as_swept result)
+        (room_runs path_room.new)
+        (room_reaches room.new) }
 {
     match job_reader::read_job(bytes) {
-        Ok(job) => run_told(run::run(job, xs, ys, gxs, gys, left, right, marks)),
-        Err(refusal) => Swept::Refused(refusal.fault.number(), refusal.place),
+        Ok(job) => run::run(job, path_room, room).map_err(run_refused),
+        Err(refusal) => Err(SweepRefusal::Refused(refusal)),
     }
 }
 
 // The same on seven runs of its own, with room for any path, so that 21 never answers.
-pub fn sweep_job(bytes: &[u8]) -> Swept
-    ensures { SweptEnsures bytes.now result }
+pub fn sweep_job(bytes: &[u8]) -> Result<Finish, SweepRefusal>
+    ensures { SweptEnsures bytes.now (as_swept result) }
 {
-    let mut xs = [0i32; 2001];
-    let mut ys = [0i32; 2001];
-    let mut gxs = [0i32; 2001];
-    let mut gys = [0i32; 2001];
-    let mut left = [0i32; 2001];
-    let mut right = [0i32; 2001];
-    let mut marks = [0u32; 2001];
-    sweep_into(
-        bytes, &mut xs, &mut ys, &mut gxs, &mut gys, &mut left, &mut right, &mut marks,
-    )
+    let mut path_room = PathRoom {
+        xs: &mut [0i32; 2001],
+        ys: &mut [0i32; 2001],
+        gxs: &mut [0i32; 2001],
+        gys: &mut [0i32; 2001],
+    };
+    let mut room = ReachRoom {
+        left: &mut [0i32; 2001],
+        right: &mut [0i32; 2001],
+        marks: &mut [0u32; 2001],
+    };
+    sweep_into(bytes, &mut path_room, &mut room)
 }
 
 // Claim: of a longer input the first 1,024 bytes decide the answer.

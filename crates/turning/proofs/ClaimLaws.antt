@@ -21,7 +21,8 @@ use Rattle.stations.specs.Placing.{unless_refused}
 use Rattle.run.specs.Run.{ran_by, ran_over, ran_answer, run_refusal, job_path, job_course}
 use Rattle.swept.specs.Swept.{swept_run, swept_of, swept_into, path_into, reaches_into}
 use Rattle.ranking.specs.declared.Setting.{Setting}
-use Rattle.bogie.specs.Settings.{Rail, last_setting, job_set}
+use Rattle.bogie.specs.Settings.{last_setting, job_set}
+use Rattle.bogie.specs.declared.Rail.{Rail}
 use Rattle.ranking.specs.Ranking.{listed_of}
 use Rattle.bogie.specs.List.{list_refusal, ranked_settings, list_answer}
 use Rattle.offered.specs.Offered.{offered_into, path_into as listPath, reaches_into as listReaches}

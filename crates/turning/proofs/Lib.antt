@@ -1,4 +1,2 @@
-pub mod CallLaws
-pub mod SettingsLaws
 pub mod KerbLaws
 pub mod ClaimLaws

@@ -4,8 +4,8 @@ use Rattle.number.specs.Read.{pick}
 use Rattle.job_reader.specs.Record.{read_job}
 use Rattle.path.specs.Laying.{PathRuns}
 use Rattle.reaches.specs.Cells.{Reaches}
-use Rattle.swept.specs.declared.Swept.{Swept}
-use Rattle.swept.specs.declared.Swept.TheVariants as S
+use Rattle.swept.specs.Answers.{Swept}
+use Rattle.swept.specs.Answers as S
 use Rattle.swept.specs.Swept.{swept_of, swept_into, path_into, reaches_into}
 use Rattle.swept.specs.Ranges.{StoppedSo}
 use Rattle.answer_run.specs.Answers.{Answered}
@@ -39,9 +39,9 @@ pub record UnitTold (a n u k : ℕ) : Type 0 where
 
 -- the number answered tells which answer it was, and what stands beside a refusal
 abbrev pub TakenApart : ℕ → Swept → Type 0
-TakenApart a (S.Finished f) = a ≡ 0
-TakenApart a (S.Stopped n u k) = UnitTold a n u k
-TakenApart a (S.Refused n p) = ByteTold a n p
+TakenApart a (S.finished f) = a ≡ 0
+TakenApart a (S.stopped n u k) = UnitTold a n u k
+TakenApart a (S.refused n p) = ByteTold a n p
 
 -- what `turning_sweep` ensures of a job's bytes s
 pub record SweepCalled (s : List ℕ) (before : List ℤ) (a : ℕ) (after : List ℤ) : Type 0 where

@@ -5,7 +5,7 @@ use Rattle.plane.specs.declared.Vec2.{Vec2}
 use Rattle.heading.specs.declared.Advance.{Advance}
 use Rattle.path.specs.Laying.{PathRuns}
 use Rattle.reaches.specs.Cells.{Reaches}
-use Rattle.bogie.specs.Settings.{Rail}
+use Rattle.bogie.specs.declared.Rail.{Rail}
 use Rattle.kerb_line.specs.Kerb.{KerbRuns}
 use Rattle.answer_run.specs.Answers.{Answered}
 use Rattle.answer_run.specs.Turns.{path_told, unit_told}

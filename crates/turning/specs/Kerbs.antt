@@ -8,8 +8,8 @@ use Rattle.kerb_reader.specs.Answers.{KerbRead}
 use Rattle.kerb_reader.specs.Answers as R
 use Rattle.kerb_reader.specs.Geometry.{read_geometry}
 use Rattle.kerb_reader.specs.Ticks.{east_ticks, north_ticks, kerb_answer, ticks_in}
-use Rattle.kerbed.specs.declared.Kerbed.{Kerbed}
-use Rattle.kerbed.specs.declared.Kerbed.TheVariants as K
+use Rattle.kerbed.specs.Answers.{Kerbed}
+use Rattle.kerbed.specs.Answers as K
 use Rattle.kerbed.specs.Kerbed.{kerbed_ticks}
 use Rattle.kerbed.specs.Ranges.{RefusedSo}
 use Rattle.kerb_told.specs.Entries.{ticks_told, touch_told}
@@ -45,10 +45,10 @@ pub record RefusalTold (a n p : ℕ) : Type 0 where
   pub named : RefusedSo n p
 
 abbrev pub TouchApart : ℕ → Kerbed → Type 0
-TouchApart a K.Nothing = a ≡ 0
-TouchApart a (K.Touch k p) = a ≡ 0
-TouchApart a (K.Stopped n u k) = UnitTold a n u k
-TouchApart a (K.Refused n p) = RefusalTold a n p
+TouchApart a K.nothing = a ≡ 0
+TouchApart a (K.touch k p) = a ≡ 0
+TouchApart a (K.stopped n u k) = UnitTold a n u k
+TouchApart a (K.refused n p) = RefusalTold a n p
 
 -- what `turning_kerb_touch` ensures of a job's bytes s and a kerb of n vertices
 pub record TouchCalled (s : List ℕ) (n : ℕ) (k : KerbRuns) (before : List ℤ) (a : ℕ) (after : List ℤ) : Type 0 where

@@ -4,13 +4,13 @@ use Rattle.number.specs.Read.{pick}
 use Rattle.job_reader.specs.Record.{read_job}
 use Rattle.path.specs.Laying.{PathRuns}
 use Rattle.reaches.specs.Cells.{Reaches}
-use Rattle.ranking.specs.declared.Listed.{Listed}
-use Rattle.ranking.specs.declared.Listed.TheVariants as L
-use Rattle.bogie.specs.Settings.{Rail}
+use Rattle.ranking.specs.Ranking.{Listed}
+use Rattle.ranking.specs.Ranking as L
+use Rattle.bogie.specs.declared.Rail.{Rail}
 use Rattle.answer_run.specs.Answers.{Answered}
 use Rattle.entries.specs.Lists.{settings_told}
-use Rattle.offered.specs.declared.Offered.{Offered}
-use Rattle.offered.specs.declared.Offered.TheVariants as O
+use Rattle.offered.specs.Answers.{Offered}
+use Rattle.offered.specs.Answers as O
 use Rattle.offered.specs.Offered.{offered_into, path_into, reaches_into}
 use Rattle.offered.specs.Ranges.{ListedSo}
 use Rattle.turning.specs.Calls.{number_in, byte_in, ByteTold}
@@ -19,18 +19,18 @@ use Rattle.turning.specs.Calls.{number_in, byte_in, ByteTold}
 pub record ListTold (a n : ℕ) : Type 0 where
   pub number : number_in a ≡ n
   pub byte : byte_in a ≡ 0
-  pub named : ListedSo (L.Refused n)
+  pub named : ListedSo (L.refused n)
 
 -- the number answered tells which answer it was, and what stands beside a refusal
 abbrev pub ListApart : ℕ → Listed → Type 0
-ListApart a (L.One s) = a ≡ 0
-ListApart a (L.Two s t) = a ≡ 0
-ListApart a (L.Three s t u) = a ≡ 0
-ListApart a (L.Refused n) = ListTold a n
+ListApart a (L.one s) = a ≡ 0
+ListApart a (L.two s t) = a ≡ 0
+ListApart a (L.three s t u) = a ≡ 0
+ListApart a (L.refused n) = ListTold a n
 
 abbrev pub OfferApart : ℕ → Offered → Type 0
-OfferApart a (O.Listed l) = ListApart a l
-OfferApart a (O.Refused n p) = ByteTold a n p
+OfferApart a (O.listed l) = ListApart a l
+OfferApart a (O.refused n p) = ByteTold a n p
 
 -- what `turning_settings` ensures of a job's bytes s and a rail b; the seven runs stay where the answer run is too short
 pub record SettingsCalled (s : List ℕ) (b : Rail) (p : PathRuns) (r : Reaches) (before : List ℤ) (a : ℕ) (p' : PathRuns) (r' : Reaches) (after : List ℤ) : Type 0 where

@@ -2,6 +2,8 @@
 ghost use Rattle.kerb_line.specs.Kerb.{kerb_runs};
 ghost use Rattle.turning.specs.Kerbs.{TicksCalled, TouchCalled};
 
+use kerb_line::Kerb;
+
 // How many entries the answer run of a reading and of a report must have.
 const TICKS_ENTRIES: usize = 1;
 
@@ -42,5 +44,10 @@ pub extern "C" fn turning_kerb_touch(
     if answer.len() < TOUCH_ENTRIES {
         return 21;
     }
-    kerb_told::entries::tell_touch(kerbed::check_ticks(job, vertices, xs, ys), answer)
+    let kerb = Kerb {
+        count: vertices,
+        xs,
+        ys,
+    };
+    kerb_told::entries::tell_touch(kerbed::check_ticks(job, kerb), answer)
 }

@@ -13,6 +13,9 @@ ghost use Rattle.answer_run.specs.Turns.{path_told, unit_told};
 ghost use Rattle.turning.specs.Calls.{SweepCalled, RunCalled};
 ghost use Rattle.turning.specs.Claims.{RefusalWritesNothing};
 
+use path::PathRoom;
+use reaches::ReachRoom;
+
 // How many entries the answer run of a job must have.
 const SWEEP_ENTRIES: usize = 8;
 
@@ -28,6 +31,7 @@ pub extern "C" fn turning_sweep(job: &[u8], answer: &mut [i64]) -> u32
 }
 
 // The same on the caller's seven runs, which are left as the steps made left them; a refused job, or a run too short, writes nothing.
+// Kept: the C interface needs it: it hands over each run by itself, as an address and a length.
 #[unsafe(no_mangle)]
 pub extern "C" fn turning_run(
     job: &[u8],
@@ -52,13 +56,13 @@ pub extern "C" fn turning_run(
     if answer.len() < SWEEP_ENTRIES {
         return 21;
     }
-    entries::tell_sweep(
-        swept::sweep_into(job, xs, ys, gxs, gys, left, right, marks),
-        answer,
-    )
+    let mut path_room = PathRoom { xs, ys, gxs, gys };
+    let mut room = ReachRoom { left, right, marks };
+    entries::tell_sweep(swept::sweep_into(job, &mut path_room, &mut room), answer)
 }
 
 // The path turn by itself: 0 with the new heading and the move, or 6, 7 or 8.
+// Kept: two numbers for the heading, as the C interface needs it: it hands over each coordinate by itself.
 #[unsafe(no_mangle)]
 pub extern "C" fn turning_path_turn(gx: i64, gy: i64, s: u32, r: i32, answer: &mut [i64]) -> u32
     ensures { Answered 4 (path_told (path_turn (record { x = gx; y = gy }) s r)) answer.old result answer.new }
@@ -82,6 +86,7 @@ pub extern "C" fn turning_unit_turn(
 }
 
 // Claim: where a call refuses, it has written nothing.
+#[tactic(auto, using(crate::proofs::ClaimLaws::writes_nothing))]
 pub fn refusal_writes_nothing()
     ensures { RefusalWritesNothing }
 {}

@@ -3,10 +3,15 @@ ghost use Rattle.path.specs.Laying.{path_runs};
 ghost use Rattle.reaches.specs.Cells.{reach_runs};
 ghost use Rattle.turning.specs.Settings.{SettingsCalled};
 
+use bogie::Rail;
+use path::PathRoom;
+use reaches::ReachRoom;
+
 // How many entries the answer run of a list must have.
 const SETTINGS_ENTRIES: usize = 7;
 
 // The best settings of a job's last wheelbase, on the caller's seven runs: 0 with the list, else the refusal's number, with the byte where the record is refused.
+// Kept: the C interface needs it: it hands over each run and each number by itself.
 #[unsafe(no_mangle)]
 pub extern "C" fn turning_settings(
     job: &[u8],
@@ -34,10 +39,15 @@ pub extern "C" fn turning_settings(
     if answer.len() < SETTINGS_ENTRIES {
         return 21;
     }
+    let rail = Rail {
+        lowest,
+        pitch,
+        number,
+    };
+    let mut path_room = PathRoom { xs, ys, gxs, gys };
+    let mut room = ReachRoom { left, right, marks };
     entries::lists::tell_offered(
-        offered::list_into(
-            job, lowest, pitch, number, xs, ys, gxs, gys, left, right, marks,
-        ),
+        offered::list_into(job, rail, &mut path_room, &mut room),
         answer,
     )
 }

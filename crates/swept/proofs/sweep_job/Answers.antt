@@ -5,7 +5,4 @@ use Rattle.swept.proofs.sweep_job.Goals as goal
 
 pub returns : goal.returns
 unfolding empty_path empty_reaches
-returns c =
-    let o = c.before.before.before.before.before.before.before.before in
-    let k = o.before.before.before.before.before.before.before.before in
-    own_tells k.args.bytes.now (λ i. (k.shared_slice_known-1.given i).fits) _ _ _ o.sweep_into.ensures
+returns c = own_tells c.args.bytes.now (λ i. (c.type_inv.bytes i).fits) _ _ _ c.sweep_into.ensures.swept
