@@ -14,10 +14,10 @@ use Rattle.job.specs.declared.Vehicle.{Vehicle}
 use Rattle.job.specs.Allowed.{between}
 use Rattle.path.specs.Laying.{room_for}
 use Rattle.walk.specs.declared.Walk.{Walk}
-use Rattle.walk.specs.Drawn.{Drawn, view, Call, Outcome, outcome_of}
+use Rattle.walk.specs.Drawn.{Drawn, view, Call, Outcome}
 use Rattle.walk.specs.Tests.{lent, path_lent, reaches_lent, path_sound, vehicle_sound}
 use Rattle.walk.specs.Rig.{Stepped, drawn_start, draw_step}
-use Rattle.stations.specs.declared.PlaceAnswer.TheVariants as P
+use Rattle.stations.specs.Placing as P
 use Rattle.stations.specs.Placing.{place_refusal, place_answer, unless_refused, start_heading}
 use Rattle.stations.specs.Stepping.{StepEnsures}
 use Rattle.walk.specs.Rigid.{Keeping}
@@ -32,10 +32,10 @@ always s h [] = h.lengths
 always s h (c ∷ cs) = (h.lengths, step_rule_lem.near s c h, always (draw_step s c).state (step_rule_lem.kept s c h) cs)
 
 -- the program's calls follow it
-stepped : (s : Drawn) (w : Walk) → view w ≡ s → (t : Turn) → StepEnsures w t.call t.before t.result t.after → record { answer = outcome_of t.result.answer; state = view t.result.walk } ≡ draw_step s t.call
+stepped : (s : Drawn) (w : Walk) → view w ≡ s → (t : Turn) → StepEnsures w t.call t.before t.result t.after → record { answer = t.result.answer; state = view t.result.walk } ≡ draw_step s t.call
 stepped s w e t k = k.stepped ∙ ap (λ (x : Drawn). draw_step x t.call) e
 
-followed_answers : (s : Drawn) (w : Walk) → view w ≡ s → (ts : List Turn) → Chain w ts → map (λ (t : Turn). outcome_of t.result.answer) ts ≡ drawn_answers s (map (λ (t : Turn). t.call) ts)
+followed_answers : (s : Drawn) (w : Walk) → view w ≡ s → (ts : List Turn) → Chain w ts → map (λ (t : Turn). t.result.answer) ts ≡ drawn_answers s (map (λ (t : Turn). t.call) ts)
 unfolding Chain drawn_answers
 followed_answers s w e [] k = refl
 followed_answers s w e (t ∷ ts) k =
@@ -50,7 +50,7 @@ followed_end s w e (t ∷ ts) k =
     followed_end (draw_step s t.call).state t.result.walk (ap (λ (z : Stepped). z.state) (stepped s w e t k.0)) ts k.1
 
 -- an accepted placement passed its tests
-pub none_refused : (n : ℕ) → place_answer n ≡ P.Placed → n ≡ 0
+pub none_refused : (n : ℕ) → place_answer n ≡ P.placed → n ≡ 0
 none_refused zero e = refl
 none_refused (suc n) e = absurd (let z : ◌≡◌ {A = ℕ} 0 1 = cc in omega arith)
 

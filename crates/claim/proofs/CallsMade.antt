@@ -1,6 +1,6 @@
 -- Every entry answers whatever it is handed: its outcome by the definitions that its contract cites.
 use Prim.Native.Nat.{ℕ, zero, suc}
-use mathlib.Core.Path.{◌≡◌, refl, ◌∙◌, ap}
+use mathlib.Core.Path.{◌≡◌, refl, ap}
 use mathlib.Core.Bool.{Bool, true, false}
 use mathlib.Core.List.{List, [], ◌∷◌, map}
 use native.Mathlib.Omega.{arith}
@@ -11,9 +11,7 @@ use Rattle.job.specs.declared.Vehicle.{Vehicle}
 use Rattle.path.specs.Stations.{stations}
 use Rattle.path.specs.Laying.{PathRuns}
 use Rattle.walk.specs.declared.Walk.{Walk}
-use Rattle.walk.specs.declared.StepAnswer.{StepAnswer}
-use Rattle.walk.specs.declared.StepAnswer.TheVariants as S
-use Rattle.walk.specs.Drawn.{Drawn, view, Call, Outcome, made, refused, refused_at, outcome_of}
+use Rattle.walk.specs.Drawn.{Drawn, view, Call, made}
 use Rattle.walk.specs.Tests.{lent, path_sound, record_sound, at_last}
 use Rattle.walk.specs.Units.{Turning, turned, stopped}
 use Rattle.walk.specs.Rig.{Stepped, drawn_start, turning_of, after_turning, turned_down, draw_step}
@@ -22,7 +20,7 @@ use Rattle.reaches.specs.Crossing.{crossed}
 use Rattle.stations.specs.Placing.{place_refusal, unless_refused, start_heading}
 use Rattle.stations.specs.Stepping.{points_at, if_made, StepEnsures}
 use Rattle.stations.proofs.PlaceLaws.{place_refused, place_done}
-use Rattle.stations.specs.declared.PlaceAnswer.TheVariants as P
+use Rattle.stations.specs.Placing as P
 use Rattle.run.specs.Run.{ran_over, run_refusal, ran_answer, job_path, job_course}
 use Rattle.claim.specs.DemandThree.{Turn, Chain}
 use Rattle.claim.specs.PremisesMet.{Placement, JobRun, Handing, handing_of, Calls}
@@ -46,26 +44,15 @@ places v w c before = by (place_refusal v c) refl
   where
     by : (n : ℕ) → place_refusal v c ≡ n → Placement v w c before
     by zero e = record {
-      result = record { answer = P.Placed; walk = record_of (drawn_start v (start_heading c)) };
+      result = record { answer = P.placed; walk = record_of (drawn_start v (start_heading c)) };
       after = cleared c.asked before;
       ensured = place_done v w c before (record_of (drawn_start v (start_heading c))) (cleared c.asked before) e refl refl;
     }
     by (suc n) e = record {
-      result = record { answer = P.Refused (suc n); walk = w };
+      result = record { answer = P.refused (suc n); walk = w };
       after = before;
       ensured = place_refused v w c before (suc n) e (λ z. omega arith);
     }
-
--- the program's answer for an outcome of the drawn rig
-abbrev pub answer_for : Outcome → StepAnswer
-answer_for made = S.Made
-answer_for (refused n) = S.Refused n
-answer_for (refused_at n u) = S.RefusedUnit n u
-
-same_outcome : (o : Outcome) → outcome_of (answer_for o) ≡ o
-same_outcome made = refl
-same_outcome (refused n) = refl
-same_outcome (refused_at n u) = refl
 
 -- a step that is not made leaves the state
 module _ (s : Drawn) (c : Call) where
@@ -89,18 +76,12 @@ abbrev pub turn_of : Walk → Call → Reaches → Turn
 turn_of w c r = record {
   call = c;
   before = r;
-  result = record { answer = answer_for (draw_step (view w) c).answer; walk = record_of (draw_step (view w) c).state };
+  result = record { answer = (draw_step (view w) c).answer; walk = record_of (draw_step (view w) c).state };
   after = if_made (draw_step (view w) c).answer (crossed c.asked c.path (points_at (view w) c) (points_at (draw_step (view w) c).state c) r) r;
 }
 
 pub turn_ensured : (w : Walk) (c : Call) (r : Reaches) → let t = turn_of w c r in StepEnsures w c r t.result t.after
-turn_ensured w c r =
-    let e = same_outcome (draw_step (view w) c).answer in
-    record {
-      stepped = λ i. record { answer = e i; state = (draw_step (view w) c).state };
-      unchanged = λ h. ap record_of (state_left (view w) c (λ m. h (e ∙ m)));
-      runs = refl;
-    }
+turn_ensured w c r = record { stepped = refl; unchanged = λ h. ap record_of (state_left (view w) c h); runs = refl }
 
 -- any list of calls, from any record
 unfoldable pub turns_over : Walk → List Handing → List Turn

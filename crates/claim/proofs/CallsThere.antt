@@ -10,16 +10,16 @@ use Rattle.path.specs.Stations.{stations}
 use Rattle.path.specs.Laying.{PathRuns, written, LayEnsures}
 use Rattle.path.proofs.JobLaws.{laid_answered}
 use Rattle.walk.specs.declared.Walk.{Walk}
-use Rattle.walk.specs.Drawn.{view, Call, Outcome, made, refused, refused_at, outcome_of}
+use Rattle.walk.specs.Drawn.{view, Call, Outcome, made, refused, refused_at}
 use Rattle.walk.specs.Rig.{drawn_start}
 use Rattle.reaches.specs.Cells.{Reaches, cleared}
-use Rattle.stations.specs.declared.PlaceAnswer.TheVariants as P
+use Rattle.stations.specs.Placing as P
 use Rattle.stations.specs.Placing.{call_of, place_refusal, start_heading}
 use Rattle.stations.specs.Stepping.{if_made, StepEnsures}
 use Rattle.stations.proofs.PlaceLaws.{place_done}
 use Rattle.stations.proofs.StepLaws.{refused_not_made, unit_not_made}
-use Rattle.run.specs.declared.Ran.{Ran}
-use Rattle.run.specs.declared.Ran.TheVariants as R
+use Rattle.run.specs.Ran.{Ran}
+use Rattle.run.specs.Ran as R
 use Rattle.run.specs.Walking.{Going}
 use Rattle.run.specs.Run.{run_refusal, ran_answer, Runnable}
 use Rattle.run.proofs.WalkingLaws.{one_on, still_going}
@@ -38,7 +38,7 @@ module _ (asked : ℕ) (path : PathRuns) where
 
   unfoldable pub turns_until : ℕ → Walk → Reaches → List Turn
   turns_until zero w r = next w r ∷ []
-  turns_until (suc n) w r = if_made (outcome_of (next w r).result.answer) (next w r ∷ turns_until n (next w r).result.walk (next w r).after) (next w r ∷ [])
+  turns_until (suc n) w r = if_made (next w r).result.answer (next w r ∷ turns_until n (next w r).result.walk (next w r).after) (next w r ∷ [])
 
   -- both ways that it goes on
   pub by_answer : (P : List Turn → Type 0) (o : Outcome) (a b : List Turn) → (o ≡ made → P a) → ((o ≡ made → ⊥) → P b) → P (if_made o a b)
@@ -52,17 +52,17 @@ module _ (asked : ℕ) (path : PathRuns) where
   until_chain (suc n) w r =
       let t = next w r in
       let k = turn_ensured w (call_of asked path r) r in
-      by_answer (Chain w) (outcome_of t.result.answer) (t ∷ turns_until n t.result.walk t.after) (t ∷ []) (λ m. (k, until_chain n t.result.walk t.after)) (λ m. (k, tt))
+      by_answer (Chain w) t.result.answer (t ∷ turns_until n t.result.walk t.after) (t ∷ []) (λ m. (k, until_chain n t.result.walk t.after)) (λ m. (k, tt))
 
   pub until_handed : (n : ℕ) (w : Walk) (r : Reaches) → Handed asked path r (turns_until n w r)
   unfolding turns_until Handed
   until_handed zero w r = (refl, refl, tt)
   until_handed (suc n) w r =
       let t = next w r in
-      by_answer (Handed asked path r) (outcome_of t.result.answer) (t ∷ turns_until n t.result.walk t.after) (t ∷ []) (λ m. (refl, refl, until_handed n t.result.walk t.after)) (λ m. (refl, refl, tt))
+      by_answer (Handed asked path r) t.result.answer (t ∷ turns_until n t.result.walk t.after) (t ∷ []) (λ m. (refl, refl, until_handed n t.result.walk t.after)) (λ m. (refl, refl, tt))
 
   -- a made call before others
-  made_before : (t : Turn) (ts : List Turn) → outcome_of t.result.answer ≡ made → UntilRefused ts → UntilRefused (t ∷ ts)
+  made_before : (t : Turn) (ts : List Turn) → t.result.answer ≡ made → UntilRefused ts → UntilRefused (t ∷ ts)
   unfolding UntilRefused
   made_before t [] m h = absurd h
   made_before t (u ∷ ts) m h = (m, h)
@@ -73,19 +73,19 @@ module _ (asked : ℕ) (path : PathRuns) where
   until_refused (suc n) w r g h =
       let t = next w r in
       let k = turn_ensured w (call_of asked path r) r in
-      by_answer UntilRefused (outcome_of t.result.answer) (t ∷ turns_until n t.result.walk t.after) (t ∷ [])
+      by_answer UntilRefused t.result.answer (t ∷ turns_until n t.result.walk t.after) (t ∷ [])
       (λ m.
       let l = short g k m (dec_lt (w.station + 1) asked) in
       let e = one_on asked path w r t.result t.after l k m g in
       made_before t (turns_until n t.result.walk t.after) m (until_refused n t.result.walk t.after (still_going asked path w r t.result t.after l k m g) (omega arith)))
       (λ m. m)
     where
-      short : Going (view w) (call_of asked path r) → StepEnsures w (call_of asked path r) r (next w r).result (next w r).after → outcome_of (next w r).result.answer ≡ made → Dec (w.station + 1 < asked) → w.station + 1 < asked
+      short : Going (view w) (call_of asked path r) → StepEnsures w (call_of asked path r) r (next w r).result (next w r).after → (next w r).result.answer ≡ made → Dec (w.station + 1 < asked) → w.station + 1 < asked
       short g k m (yes l) = l
       short g k m (no f) = absurd (refused_not_made 25 (sym (refused_25 asked path w r g (next w r) k (omega arith)) ∙ m))
 
 -- a run that is not refused: the job has no fault and all seven runs have room
-pub no_refusal : (a b : Ran) (m : ℕ) → a ≡ ran_answer m b → ((k : ℕ) → a ≡ R.Refused k → ⊥) → m ≡ 0
+pub no_refusal : (a b : Ran) (m : ℕ) → a ≡ ran_answer m b → ((k : ℕ) → a ≡ R.refused k → ⊥) → m ≡ 0
 no_refusal a b zero e f = refl
 no_refusal a b (suc m) e f = absurd (f (suc m) e)
 
@@ -125,7 +125,7 @@ module _ (x : Run) where
       n = n;
       path = laid;
       laid = is_laid;
-      placing = record { answer = P.Placed; walk = start };
+      placing = record { answer = P.placed; walk = start };
       after = cleared n x.reaches;
       ensured = place_done x.job.vehicle w call x.reaches start (cleared n x.reaches) placed_so refl refl;
       placed = refl;
@@ -139,5 +139,5 @@ module _ (x : Run) where
     unfolding calls_there
     turns_are = refl
 
-pub run_calls_lem : (x : Run) → Ensured x → ((m : ℕ) → x.answer ≡ R.Refused m → ⊥) → (w : Walk) → RunCalls x w
+pub run_calls_lem : (x : Run) → Ensured x → ((m : ℕ) → x.answer ≡ R.refused m → ⊥) → (w : Walk) → RunCalls x w
 run_calls_lem x h f w = calls_there x w (no_refusal x.answer _ (run_refusal x.job x.path x.reaches) h.answered f)

@@ -28,7 +28,7 @@ use Rattle.walk.specs.Units.{turn_units}
 use Rattle.walk.specs.Rig.{zero_vector, start_vectors, drawn_start, draw_step}
 use Rattle.reaches.specs.Cells.{Reaches, reach_runs, lengths_of, at_stations, cleared}
 use Rattle.stations.specs.Placing.{call_of, place_refusal, start_heading}
-use Rattle.stations.specs.declared.PlaceAnswer.TheVariants as P
+use Rattle.stations.specs.Placing as P
 use Rattle.stations.proofs.PlaceLaws.{place_done}
 use Rattle.run.specs.Run.{run_refusal}
 use Rattle.claim.specs.DemandThree.{Turn}
@@ -97,7 +97,7 @@ walk_met = record {
   asked = 2;
   path = path_to (pos 0) (pos 5000);
   before = runs;
-  placing = record { answer = P.Placed; walk = placed };
+  placing = record { answer = P.placed; walk = placed };
   after = cleared 2 runs;
   ensured = place_done rig no_walk (call 2 (pos 0) (pos 5000)) runs placed (cleared 2 runs) none_refused refl refl;
   placed = refl;

@@ -13,8 +13,7 @@ use Rattle.path.specs.Laying.{PathRuns, path_runs}
 use Rattle.unit.specs.Turn.{turned_by, too_far, placed_by}
 use Rattle.unit.specs.Coupling.{hitch_offset, fold_allowed}
 use Rattle.walk.specs.declared.Walk.{Walk}
-use Rattle.walk.specs.declared.StepAnswer.{StepAnswer}
-use Rattle.walk.specs.declared.StepAnswer.TheVariants as S
+use Rattle.walk.specs.Drawn.{Outcome, made, refused, refused_at}
 use Rattle.walk.specs.Tests.{lent, station_sound, path_sound, vehicle_sound, vector_sound, vectors_sound, record_sound, at_last}
 use Rattle.walk.specs.Units.{turn_units}
 use Rattle.walk.specs.Rig.{zero_vector, start_vectors, draw_step}
@@ -25,7 +24,7 @@ use Rattle.points.specs.Ends.{unit_places}
 use Rattle.points.specs.Points.{point_at, rig_points}
 use Rattle.reaches.specs.Cells.{Reaches, reach_runs, at_stations}
 use Rattle.reaches.specs.Crossing.{reach_of, crosses, crossed_by, crossed_from}
-use Rattle.stations.specs.declared.PlaceAnswer.TheVariants as P
+use Rattle.stations.specs.Placing as P
 use Rattle.stations.specs.Placing.{call_of, place_refusal, PlaceEnsures}
 use Rattle.stations.proofs.StepLaws.{refused_not_made, unit_not_made}
 use Rattle.claim.specs.DemandThree.{Turn, Chain}
@@ -84,19 +83,19 @@ abbrev single : Reaches
 single = reach_runs (pos 7 ∷ []) (pos 8 ∷ []) (4294967295 ∷ [])
 
 -- a call over some stations of a path, its answer, the station of the record that it leaves and the runs
-abbrev turn : ℕ → PathRuns → Reaches → StepAnswer → ℕ → Reaches → Turn
+abbrev turn : ℕ → PathRuns → Reaches → Outcome → ℕ → Reaches → Turn
 turn asked p before answer k after = record { call = call_of asked p before; before = before; result = record { answer = answer; walk = at k }; after = after }
 
 abbrev turns : List Turn
 turns =
-    turn 4 path none S.Made 1 one
-    ∷ turn 0 (path_runs [] [] [] []) no_runs (S.Refused 21) 1 no_runs
-    ∷ turn 1 too_far_east single (S.Refused 26) 1 single
-    ∷ turn 4 path one S.Made 2 two
-    ∷ turn 2 path two (S.Refused 27) 2 two
-    ∷ turn 4 (path_to (pos 15001)) zeros (S.RefusedUnit 22 1) 2 zeros
-    ∷ turn 4 path two S.Made 3 three
-    ∷ turn 4 path three (S.Refused 25) 3 three
+    turn 4 path none made 1 one
+    ∷ turn 0 (path_runs [] [] [] []) no_runs (refused 21) 1 no_runs
+    ∷ turn 1 too_far_east single (refused 26) 1 single
+    ∷ turn 4 path one made 2 two
+    ∷ turn 2 path two (refused 27) 2 two
+    ∷ turn 4 (path_to (pos 15001)) zeros (refused_at 22 1) 2 zeros
+    ∷ turn 4 path two made 3 three
+    ∷ turn 4 path three (refused 25) 3 three
     ∷ []
 
 -- the placement, and calls after it
@@ -107,7 +106,7 @@ placed_then ts = record {
   asked = 4;
   path = path;
   before = zeros;
-  placing = record { answer = P.Placed; walk = at 0 };
+  placing = record { answer = P.placed; walk = at 0 };
   after = none;
   turns = ts;
 }
@@ -120,7 +119,7 @@ abbrev pub no_calls : History
 no_calls = placed_then []
 
 -- each call by computing
-placed : PlaceEnsures vehicle (at 0) (call_of 4 path zeros) zeros (record { answer = P.Placed; walk = at 0 }) none
+placed : PlaceEnsures vehicle (at 0) (call_of 4 path zeros) zeros (record { answer = P.placed; walk = at 0 }) none
 unfolding half_to nearest_size nearest_z has_length fault_of units_fault vehicle_fault placed_by lent station_sound path_sound vehicle_sound start_vectors place_refusal at_stations
 placed = record { answered = refl; placed = refl; unchanged = λ n. absurd (n refl); runs = refl }
 

@@ -10,7 +10,7 @@ use Rattle.job.specs.declared.Vehicle.{Vehicle}
 use Rattle.path.specs.declared.Station.{Station}
 use Rattle.path.specs.Laying.{PathRuns}
 use Rattle.walk.specs.declared.Walk.{Walk}
-use Rattle.walk.specs.Drawn.{Drawn, view, Call, station_at, Outcome, made, refused, refused_at, outcome_of}
+use Rattle.walk.specs.Drawn.{Drawn, view, Call, station_at, Outcome, made, refused, refused_at}
 use Rattle.walk.specs.Rig.{Stepped, draw_step}
 use Rattle.marks.specs.Count.{point_count}
 use Rattle.marks.specs.Marks.{has_bit}
@@ -63,17 +63,17 @@ module _ (asked : ℕ) (path : PathRuns) where
 
   -- and any call, made or refused
   runs_after_lem : (s : Drawn) (w : Walk) → view w ≡ s → (r : Reaches) (t : Turn) → StepEnsures w t.call t.before t.result t.after
-      → (outcome_of t.result.answer ≡ made → (t.before ≡ r) × (t.call ≡ call_of asked path r))
+      → (t.result.answer ≡ made → (t.before ≡ r) × (t.call ≡ call_of asked path r))
       → left_by r t ≡ if_made (draw_step s t.call).answer (crossed asked path (moves_in s t.call).olds (moves_in s t.call).news r) r
-  runs_after_lem s w e r t k g = by (outcome_of t.result.answer) refl ∙ ap (λ (o : Outcome). if_made o x r) same
+  runs_after_lem s w e r t k g = by t.result.answer refl ∙ ap (λ (o : Outcome). if_made o x r) same
     where
       x : Reaches
       x = crossed asked path (moves_in s t.call).olds (moves_in s t.call).news r
 
-      same : outcome_of t.result.answer ≡ (draw_step s t.call).answer
+      same : t.result.answer ≡ (draw_step s t.call).answer
       same = ap (λ (z : Stepped). z.answer) k.stepped ∙ ap (λ (y : Drawn). (draw_step y t.call).answer) e
 
-      by : (o : Outcome) → outcome_of t.result.answer ≡ o → if_made o t.after r ≡ if_made o x r
+      by : (o : Outcome) → t.result.answer ≡ o → if_made o t.after r ≡ if_made o x r
       by made q = made_runs s w e r t k (g q).0 (g q).1 ∙ ap (λ (o : Outcome). if_made o x r) (sym same ∙ q)
       by (refused n) q = refl
       by (refused_at n u) q = refl
@@ -197,10 +197,10 @@ module _ (h : History) (l : Lawful h) where
       rw (same_call h.asked h.path a, same_call h.asked h.path b) call_lent
 
 -- a refused call
-pub left_as_was : (w : Walk) (t : Turn) → StepEnsures w t.call t.before t.result t.after → (outcome_of t.result.answer ≡ made → ⊥) → t.after ≡ t.before
+pub left_as_was : (w : Walk) (t : Turn) → StepEnsures w t.call t.before t.result t.after → (t.result.answer ≡ made → ⊥) → t.after ≡ t.before
 left_as_was w t k n = k.runs ∙ by _ (draw_step (view w) t.call).answer (ap (λ (z : Stepped). z.answer) k.stepped)
   where
-    by : (x : Reaches) (o : Outcome) → outcome_of t.result.answer ≡ o → if_made o x t.before ≡ t.before
+    by : (x : Reaches) (o : Outcome) → t.result.answer ≡ o → if_made o x t.before ≡ t.before
     by x made q = absurd (n q)
     by x (refused m) q = refl
     by x (refused_at m u) q = refl

@@ -12,7 +12,7 @@ use Rattle.walk.specs.Tests.{lent, path_sound, station_sound, vehicle_sound, rec
 use Rattle.walk.specs.Units.{none, Turning, turned, stopped}
 use Rattle.walk.specs.Rig.{Stepped, turning_of, after_turning, turned_down, draw_step}
 use Rattle.walk.proofs.PathTests.{all_sound}
-use Rattle.stations.specs.declared.PlaceAnswer.TheVariants as P
+use Rattle.stations.specs.Placing as P
 use Rattle.stations.specs.Placing.{place_refusal, place_answer}
 use Rattle.run.proofs.RunLaws.{laid_station}
 use Rattle.run.proofs.StopLaws.{StopsIn, units_stop}
@@ -39,13 +39,13 @@ module _ (s : Drawn) (c : Call) (sound : path_sound c.asked c.path ≡ true) whe
       (turned_not_26 (length (units_in_use s.vehicle)) (turning_of s c) (units_stop 1 none (units_in_use s.vehicle) s.vectors _ _))
 
 -- a placement over one
-place_by : (a b d : Bool) → b ≡ true → place_answer (pick a (pick b (pick d 0 27) 26) 21) ≡ P.Refused 26 → ⊥
+place_by : (a b d : Bool) → b ≡ true → place_answer (pick a (pick b (pick d 0 27) 26) 21) ≡ P.refused 26 → ⊥
 place_by false b d k e = let z : ◌≡◌ {A = ℕ} 21 26 = cc in omega arith
 place_by true false d k e = let z : ◌≡◌ {A = ℕ} 0 1 = cc in omega arith
 place_by true true false k e = let z : ◌≡◌ {A = ℕ} 27 26 = cc in omega arith
 place_by true true true k e = let z : ◌≡◌ {A = ℕ} 0 1 = cc in omega arith
 
-place_not_26 : (v : Vehicle) (c : Call) → path_sound c.asked c.path ≡ true → place_answer (place_refusal v c) ≡ P.Refused 26 → ⊥
+place_not_26 : (v : Vehicle) (c : Call) → path_sound c.asked c.path ≡ true → place_answer (place_refusal v c) ≡ P.refused 26 → ⊥
 unfolding place_refusal
 place_not_26 v c k = place_by (lent c) (path_sound c.asked c.path) (vehicle_sound v) k
 

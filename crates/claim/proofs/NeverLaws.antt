@@ -19,7 +19,7 @@ use Rattle.path.specs.declared.Station.{Station}
 use Rattle.path.specs.Stations.{stations}
 use Rattle.path.specs.Laying.{PathRuns, written, lay_answer, laid_runs, LayEnsures}
 use Rattle.walk.specs.declared.Walk.{Walk}
-use Rattle.walk.specs.declared.Advanced.{Advanced}
+use Rattle.walk.specs.Moving.{Advanced}
 use Rattle.walk.specs.Drawn.{Drawn, view, Call, station_at, Outcome, made, refused, refused_at}
 use Rattle.walk.specs.Rig.{draw_step}
 use Rattle.marks.specs.Count.{point_count}
@@ -29,15 +29,15 @@ use Rattle.reaches.specs.declared.Cell.{Cell}
 use Rattle.reaches.specs.Cells.{Reaches, cell_at, cleared, at_stations}
 use Rattle.reaches.specs.Crossing.{crossed, crossed_from}
 use Rattle.reaches.proofs.CrossingLaws.{step_above}
-use Rattle.stations.specs.declared.Placing.{Placing}
-use Rattle.stations.specs.Placing.{call_of, place_refusal, unless_refused, PlaceEnsures}
+use Rattle.stations.specs.Placing.{Placing, call_of, place_refusal, unless_refused, PlaceEnsures}
 use Rattle.stations.specs.Stepping.{points_at, if_made, StepEnsures}
-use Rattle.run.specs.declared.Ran.TheVariants as R
+use Rattle.run.specs.Ran as R
 use Rattle.run.specs.Walking.{Course, walk_on}
 use Rattle.run.specs.Run.{run_refusal, job_path, job_course}
 use Rattle.run.proofs.CourseLaws.{vehicle_stays}
-use Rattle.ranking.specs.declared.Listed.{Listed}
-use Rattle.bogie.specs.Settings.{Rail, last_setting, job_set}
+use Rattle.ranking.specs.Ranking.{Listed}
+use Rattle.bogie.specs.declared.Rail.{Rail}
+use Rattle.bogie.specs.Settings.{last_setting, job_set}
 use Rattle.bogie.specs.List.{list_refusal, ListEnsures}
 use Rattle.claim.specs.WholeRun.{Run, Ensured}
 use Rattle.claim.specs.NeverWritten.{bits_above, PastKept, PathPastKept, ReachesPastKept, station_count, StepNever, PlaceNever, RunNever, NeverWritten}
@@ -220,7 +220,7 @@ module _ (x : Run) (h : Ensured x) where
   abbrev course : Course
   course = job_course x.job x.path x.reaches
 
-  run_above : ((m : ℕ) → x.answer ≡ R.Refused m → ⊥) → (i : ℕ) → i < n → bits_above x.job.vehicle i x.reaches_left ≡ 0
+  run_above : ((m : ℕ) → x.answer ≡ R.refused m → ⊥) → (i : ℕ) → i < n → bits_above x.job.vehicle i x.reaches_left ≡ 0
   run_above f i l =
       let v = x.job.vehicle in
       let path = job_path x.job x.path in

@@ -7,7 +7,7 @@ use lib.IntN.{pos, ◌*ℤ◌}
 use Rattle.plane.specs.Length.{heading_length, Near}
 use Rattle.path.specs.Laying.{PathRuns}
 use Rattle.walk.specs.declared.Walk.{Walk}
-use Rattle.walk.specs.Drawn.{Drawn, view, Call, station_at, Outcome, made, refused, refused_at, outcome_of}
+use Rattle.walk.specs.Drawn.{Drawn, view, Call, station_at, Outcome, made, refused, refused_at}
 use Rattle.walk.specs.Tests.{lent, path_sound, vehicle_sound, record_sound}
 use Rattle.walk.specs.Rig.{Stepped, draw_step}
 use Rattle.walk.proofs.PathTests.{path_station}
@@ -35,13 +35,13 @@ module _ (w : Walk) (t : Turn) (k : StepEnsures w t.call t.before t.result t.aft
   vehicle : t.result.walk.vehicle ≡ w.vehicle
   vehicle = ap (λ (s : Drawn). s.vehicle) state ∙ vehicle_stays (view w) t.call
 
-  sound_next : (asked : ℕ) → record_sound asked (view w) ≡ true → (outcome_of t.result.answer ≡ made → t.call.asked ≡ asked) → record_sound asked (view t.result.walk) ≡ true
-  sound_next asked h m = by (outcome_of t.result.answer) refl
+  sound_next : (asked : ℕ) → record_sound asked (view w) ≡ true → (t.result.answer ≡ made → t.call.asked ≡ asked) → record_sound asked (view t.result.walk) ≡ true
+  sound_next asked h m = by t.result.answer refl
     where
-      stays : (outcome_of t.result.answer ≡ made → ⊥) → record_sound asked (view t.result.walk) ≡ true
+      stays : (t.result.answer ≡ made → ⊥) → record_sound asked (view t.result.walk) ≡ true
       stays n = subst (λ (x : Walk). record_sound asked (view x) ≡ true) (sym (k.unchanged n)) h
 
-      by : (o : Outcome) → outcome_of t.result.answer ≡ o → record_sound asked (view t.result.walk) ≡ true
+      by : (o : Outcome) → t.result.answer ≡ o → record_sound asked (view t.result.walk) ≡ true
       by made q =
           let d = sym (ap (λ (z : Stepped). z.answer) k.stepped) ∙ q in
           let s = (made_step_lem (view w) t.call (made_open (view w) t.call d) d).0 in
@@ -52,7 +52,7 @@ module _ (w : Walk) (t : Turn) (k : StepEnsures w t.call t.before t.result t.aft
 -- every made call was asked for so many stations
 abbrev pub MadeAsked : ℕ → List Turn → Type 0
 MadeAsked asked [] = Unit {0}
-MadeAsked asked (t ∷ ts) = (outcome_of t.result.answer ≡ made → t.call.asked ≡ asked) × MadeAsked asked ts
+MadeAsked asked (t ∷ ts) = (t.result.answer ≡ made → t.call.asked ≡ asked) × MadeAsked asked ts
 
 pub over_asked : (asked : ℕ) (path : PathRuns) (r : Reaches) (ts : List Turn) → MadeOver asked path r ts → MadeAsked asked ts
 unfolding MadeOver

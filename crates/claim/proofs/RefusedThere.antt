@@ -16,11 +16,11 @@ use Rattle.walk.specs.declared.Walk.{Walk}
 use Rattle.walk.specs.Drawn.{Outcome, made, refused, refused_at}
 use Rattle.walk.specs.Tests.{path_lent, reaches_lent, lent}
 use Rattle.reaches.specs.Cells.{lengths_of}
-use Rattle.stations.specs.declared.PlaceAnswer.TheVariants as P
+use Rattle.stations.specs.Placing as P
 use Rattle.stations.specs.Placing.{call_of, place_refusal}
 use Rattle.stations.proofs.PlaceLaws.{place_refused}
-use Rattle.run.specs.declared.Ran.{Ran}
-use Rattle.run.specs.declared.Ran.TheVariants as R
+use Rattle.run.specs.Ran.{Ran}
+use Rattle.run.specs.Ran as R
 use Rattle.run.specs.Walking.{Course}
 use Rattle.run.specs.Run.{ran_by, ran_over, run_refusal, ran_answer, job_path, job_course}
 use Rattle.claim.specs.WholeRun.{Run, Ensured}
@@ -28,14 +28,14 @@ use Rattle.claim.specs.PremisesMet.{RunRefused, not_laid, not_placed}
 use Rattle.claim.proofs.FaultsNamed.{Named, none, named, judge_named}
 
 -- the number answered is the refusal's
-answered_by_lem : (m k : ℕ) (a b : Ran) → a ≡ ran_answer k b → a ≡ R.Refused m → ((i : ℕ) → b ≡ R.Refused i → ⊥) → (k ≡ m) × (m ≡ 0 → ⊥)
+answered_by_lem : (m k : ℕ) (a b : Ran) → a ≡ ran_answer k b → a ≡ R.refused m → ((i : ℕ) → b ≡ R.refused i → ⊥) → (k ≡ m) × (m ≡ 0 → ⊥)
 answered_by_lem m zero a b e h f = absurd (f m (sym e ∙ h))
 answered_by_lem m (suc k) a b e h f = let z : suc k ≡ m = cc in (z, λ y. omega (arith, z, y))
 
-never_refused : (asked : ℕ) (path : PathRuns) (c : Course) (i : ℕ) → ran_over asked path c ≡ R.Refused i → ⊥
+never_refused : (asked : ℕ) (path : PathRuns) (c : Course) (i : ℕ) → ran_over asked path c ≡ R.refused i → ⊥
 never_refused asked path c i = by c.answer
   where
-    by : (o : Outcome) → ran_by asked path o c.state c.runs ≡ R.Refused i → ⊥
+    by : (o : Outcome) → ran_by asked path o c.state c.runs ≡ R.refused i → ⊥
     by made e = let z : ◌≡◌ {A = ℕ} 0 1 = cc in omega arith
     by (refused n) e = let z : ◌≡◌ {A = ℕ} 0 1 = cc in omega arith
     by (refused_at n u) e = let z : ◌≡◌ {A = ℕ} 0 1 = cc in omega arith
@@ -62,15 +62,15 @@ module _ (x : Run) (w : Walk) where
   refused_by true false c m f p r e h =
       not_laid F.RunTooShort x.path (no_room_answered x.job x.path (eqb-true (judge x.job) 0 f) p) e
   refused_by true true false m f p r e h =
-      not_placed count lay (record { answer = P.Refused 21; walk = w }) x.reaches (laid_answered x.job x.path (eqb-true (judge x.job) 0 f) p)
-      (place_refused x.job.vehicle w (call_of count lay x.reaches) x.reaches 21 (short_refused r) (λ z. omega arith)) (ap (λ (k : ℕ). P.Refused k) e)
+      not_placed count lay (record { answer = P.refused 21; walk = w }) x.reaches (laid_answered x.job x.path (eqb-true (judge x.job) 0 f) p)
+      (place_refused x.job.vehicle w (call_of count lay x.reaches) x.reaches 21 (short_refused r) (λ z. omega arith)) (ap (λ (k : ℕ). P.refused k) e)
   refused_by true true true m f p r e h = absurd (h (sym e))
 
   refused_so : (m : ℕ) → run_refusal x.job x.path x.reaches ≡ m → (m ≡ 0 → ⊥) → RunRefused x w m
   unfolding run_refusal
   refused_so m e h = refused_by (eqb (judge x.job) 0) (room_for count x.path) (reaches_lent count (lengths_of x.reaches)) m refl refl refl e h
 
-pub run_refused_lem : (x : Run) → Ensured x → (m : ℕ) → x.answer ≡ R.Refused m → (w : Walk) → RunRefused x w m
+pub run_refused_lem : (x : Run) → Ensured x → (m : ℕ) → x.answer ≡ R.refused m → (w : Walk) → RunRefused x w m
 run_refused_lem x h m e w =
     let k = answered_by_lem m (run_refusal x.job x.path x.reaches) x.answer _ h.answered e (never_refused (length (stations x.job)) (job_path x.job x.path) (job_course x.job x.path x.reaches)) in
     refused_so x w m k.0 k.1

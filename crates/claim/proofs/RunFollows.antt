@@ -8,7 +8,7 @@ use borrow.Author.Tests.{le-leb}
 use lib.ListN.{length}
 use Rattle.path.specs.Laying.{PathRuns}
 use Rattle.walk.specs.declared.Walk.{Walk}
-use Rattle.walk.specs.Drawn.{view, Call, Outcome, made, refused, refused_at, outcome_of}
+use Rattle.walk.specs.Drawn.{view, Call, Outcome, made, refused, refused_at}
 use Rattle.walk.specs.Units.{Turning, turned, stopped}
 use Rattle.walk.specs.Rig.{Stepped, turning_of, after_turning, turned_down, draw_step}
 use Rattle.reaches.specs.Cells.{Reaches}
@@ -47,7 +47,7 @@ module _ (n : ℕ) (path : PathRuns) where
     abbrev c : Call
     c = call_of n path r
 
-    answer_of_lem : outcome_of t.result.answer ≡ (draw_step (view w) c).answer
+    answer_of_lem : t.result.answer ≡ (draw_step (view w) c).answer
     answer_of_lem = ap (λ (x : Stepped). x.answer) k.stepped
 
     -- at the last station
@@ -55,7 +55,7 @@ module _ (n : ℕ) (path : PathRuns) where
     unfolding draw_step
     down h = rw (g.lent, g.path, g.rig, last_is n (view w) ∙ le-leb n (w.station + 1) h) refl
 
-    pub refused_25 : n ≤ w.station + 1 → outcome_of t.result.answer ≡ refused 25
+    pub refused_25 : n ≤ w.station + 1 → t.result.answer ≡ refused 25
     refused_25 h = answer_of_lem ∙ ap (λ (x : Stepped). x.answer) (down h)
 
     pub last_call : n ≤ w.station + 1 → Ended (walk_to_end n path (view w) r) w.station r (t ∷ [])
@@ -72,7 +72,7 @@ module _ (n : ℕ) (path : PathRuns) where
         })
 
     -- at a unit
-    stopped_unit : (s : Turning) → turning_of (view w) c ≡ s → draw_step (view w) c ≡ after_turning (view w) s → (outcome_of t.result.answer ≡ made → ⊥)
+    stopped_unit : (s : Turning) → turning_of (view w) c ≡ s → draw_step (view w) c ≡ after_turning (view w) s → (t.result.answer ≡ made → ⊥)
         → Ended (course_of t.result t.after) w.station r (t ∷ [])
     unfolding last_runs last_answer
     stopped_unit (turned ds) q e m = absurd (m (answer_of_lem ∙ ap (λ (x : Stepped). x.answer) e))
@@ -82,7 +82,7 @@ module _ (n : ℕ) (path : PathRuns) where
         record {
           runs = refl;
           count = ap (λ (x : ℕ). x + 1) s;
-          answer = as_it_is (outcome_of t.result.answer) a u o;
+          answer = as_it_is t.result.answer a u o;
           at_unit = λ b z. unit_not_plain a u b (sym o ∙ z);
         }
       where
@@ -91,13 +91,13 @@ module _ (n : ℕ) (path : PathRuns) where
         as_it_is (refused b) a u e = refl
         as_it_is (refused_at b v) a u e = refl
 
-    pub unit_call : w.station + 1 < n → (outcome_of t.result.answer ≡ made → ⊥) → Ended (walk_to_end n path (view w) r) w.station r (t ∷ [])
+    pub unit_call : w.station + 1 < n → (t.result.answer ≡ made → ⊥) → Ended (walk_to_end n path (view w) r) w.station r (t ∷ [])
     unit_call h m =
         subst (λ (x : Course). Ended x w.station r (t ∷ [])) (stopped_here n path w r t.result t.after h k m)
         (stopped_unit (turning_of (view w) c) refl (step_open (view w) c (is_open (view w) c g h)) m)
 
     -- a made call, and those after it
-    pub made_call : (u : Turn) (ts : List Turn) → w.station + 1 < n → outcome_of t.result.answer ≡ made
+    pub made_call : (u : Turn) (ts : List Turn) → w.station + 1 < n → t.result.answer ≡ made
         → Ended (walk_to_end n path (view t.result.walk) t.after) t.result.walk.station t.after (u ∷ ts) → Ended (walk_to_end n path (view w) r) w.station r (t ∷ u ∷ ts)
     unfolding last_runs last_answer
     made_call u ts h m e =

@@ -28,10 +28,9 @@ use Rattle.walk.specs.Rig.{drawn_start}
 use Rattle.reaches.specs.Cells.{Reaches, lengths_of, cleared_cell, cleared}
 use Rattle.reaches.proofs.CellLaws.{lengths_of_lem}
 use Rattle.reaches.specs.Widest.{widest_among, answer_of, widest_lent, widest_answer}
-use Rattle.stations.specs.declared.Placing.{Placing}
-use Rattle.stations.specs.declared.PlaceAnswer.TheVariants as P
-use Rattle.stations.specs.Placing.{call_of, place_refusal, place_answer, unless_refused, start_heading, PlaceEnsures}
-use Rattle.run.specs.declared.Ran.TheVariants as R
+use Rattle.stations.specs.Placing as P
+use Rattle.stations.specs.Placing.{Placing, call_of, place_refusal, place_answer, unless_refused, start_heading, PlaceEnsures}
+use Rattle.run.specs.Ran as R
 use Rattle.run.specs.Walking.{Course, walk_to_end, steps_left}
 use Rattle.run.specs.Run.{finish_at, ran_by, ran_over, walk_over, run_refusal, ran_answer, job_path, job_course}
 use Rattle.run.proofs.WalkingLaws.{same_call}
@@ -104,17 +103,17 @@ module _ (x : Run) (h : Ensured x) (n : ℕ) (laid : PathRuns) (t : LayEnsures x
   same_refusal = run_by (reaches_lent n (lengths_of x.reaches)) refl ∙ sym (place_by (reaches_lent n (lengths_of x.reaches)) refl)
 
   module _ (w : Walk) (p : Placing) (after : Reaches) (k : PlaceEnsures j.vehicle w call x.reaches p after) where
-    refused_as : (a m : ℕ) → place_answer a ≡ P.Refused m → (a ≡ m) × (m ≡ 0 → ⊥)
+    refused_as : (a m : ℕ) → place_answer a ≡ P.refused m → (a ≡ m) × (m ≡ 0 → ⊥)
     refused_as zero m e = absurd (let z : ◌≡◌ {A = ℕ} 0 1 = cc in omega arith)
     refused_as (suc a) m e = let z : suc a ≡ m = cc in (z, λ y. omega (arith, z, y))
 
-    pub not_placed_lem : (m : ℕ) → p.answer ≡ P.Refused m → Untouched x m
+    pub not_placed_lem : (m : ℕ) → p.answer ≡ P.refused m → Untouched x m
     not_placed_lem m e =
         let q = refused_as (place_refusal j.vehicle call) m (sym k.answered ∙ e) in
         not_zero x h m (same_refusal ∙ q.0) q.1
 
     -- placed: every test was passed
-    module _ (e : p.answer ≡ P.Placed) where
+    module _ (e : p.answer ≡ P.placed) where
       no_refusal : place_refusal j.vehicle call ≡ 0
       no_refusal = none_refused (place_refusal j.vehicle call) (sym k.answered ∙ e)
 
@@ -169,20 +168,20 @@ module _ (x : Run) (h : Ensured x) (n : ℕ) (laid : PathRuns) (t : LayEnsures x
         answered_by_lem : (a : Outcome) (d : Drawn) (r : Reaches) → course ≡ record { answer = a; state = d; runs = r } → ran_over n laid course ≡ ran_by n laid a d r
         answered_by_lem a d r q = ap (ran_over n laid) q
 
-        finished_so : (a : Outcome) → course.answer ≡ a → as_call a ≡ refused 25 → ran_over n laid course ≡ R.Finished (finish_at j.vehicle (length ts - 1) n laid (last_runs after ts))
+        finished_so : (a : Outcome) → course.answer ≡ a → as_call a ≡ refused 25 → ran_over n laid course ≡ R.finished (finish_at j.vehicle (length ts - 1) n laid (last_runs after ts))
         finished_so made q z =
             let s : course.state.station ≡ length ts - 1 = let c = o.count in omega (arith, c) in
             ap (λ (a : Outcome). ran_by n laid a course.state course.runs) q
-            ∙ ap (λ (v : Vehicle). R.Finished (finish_at v course.state.station n laid course.runs)) course_of_lem ∙ ap (λ (i : ℕ). R.Finished (finish_at j.vehicle i n laid course.runs)) s ∙ ap (λ (r : Reaches). R.Finished (finish_at j.vehicle (length ts - 1) n laid r)) o.runs
+            ∙ ap (λ (v : Vehicle). R.finished (finish_at v course.state.station n laid course.runs)) course_of_lem ∙ ap (λ (i : ℕ). R.finished (finish_at j.vehicle i n laid course.runs)) s ∙ ap (λ (r : Reaches). R.finished (finish_at j.vehicle (length ts - 1) n laid r)) o.runs
         finished_so (refused m) q z = absurd (o.at_unit m q)
         finished_so (refused_at m u) q z = absurd (let y : ◌≡◌ {A = ℕ} 0 1 = cc in omega arith)
 
-        stopped_so : (a : Outcome) (m u : ℕ) → course.answer ≡ a → as_call a ≡ refused_at m u → ran_over n laid course ≡ R.Stopped m u (length ts)
+        stopped_so : (a : Outcome) (m u : ℕ) → course.answer ≡ a → as_call a ≡ refused_at m u → ran_over n laid course ≡ R.stopped m u (length ts)
         stopped_so made m u q z = absurd (let y : ◌≡◌ {A = ℕ} 0 1 = cc in omega arith)
         stopped_so (refused b) m u q z = absurd (o.at_unit b q)
         stopped_so (refused_at b v) m u q z =
             let c : course.state.station + 1 ≡ length ts = let k = o.count in omega (arith, k) in
-            ap (λ (a : Outcome). ran_by n laid a course.state course.runs) (q ∙ z) ∙ ap (λ (i : ℕ). R.Stopped m u i) c
+            ap (λ (a : Outcome). ran_by n laid a course.state course.runs) (q ∙ z) ∙ ap (λ (i : ℕ). R.stopped m u i) c
 
         only_25 : (a : Outcome) (m : ℕ) → course.answer ≡ a → as_call a ≡ refused m → m ≡ 25
         only_25 made m q z = cc

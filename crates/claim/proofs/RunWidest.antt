@@ -4,6 +4,7 @@ use mathlib.Core.Path.{◌≡◌, refl, sym, ◌∙◌, ap, ap₂, subst}
 use mathlib.Core.List.{List, ◌∷◌}
 use native.Mathlib.Omega.{arith}
 use lib.ListN.{length, replicate}
+use Rattle.std.specs.Prelude.{Option, None, Some}
 use Rattle.job.specs.declared.Vehicle.{Vehicle}
 use Rattle.marks.specs.Count.{point_count}
 use Rattle.path.specs.Stations.{stations}
@@ -12,8 +13,7 @@ use Rattle.path.proofs.JobLaws.{laid_answered, stations_count}
 use Rattle.walk.specs.Drawn.{Drawn, Call, station_at, Outcome, made, refused, refused_at}
 use Rattle.walk.specs.Rig.{drawn_start, draw_step}
 use Rattle.walk.proofs.VehicleTests.{units_counted}
-use Rattle.reaches.specs.declared.Best.{Best}
-use Rattle.reaches.specs.declared.Best.TheVariants.{Nothing, Found}
+use Rattle.reaches.specs.declared.Place.{Place}
 use Rattle.reaches.specs.Cells.{Reaches, cell_at, cleared_cell, cleared}
 use Rattle.reaches.specs.Crossing.{crossed, crossed_from}
 use Rattle.reaches.specs.Widest.{widest_among}
@@ -24,8 +24,8 @@ use Rattle.stations.specs.Stepping.{if_made}
 use Rattle.stations.proofs.Entering.{room_of}
 use Rattle.stations.proofs.StepLaws.{refused_not_made, unit_not_made}
 use Rattle.run.specs.declared.Finish.{Finish}
-use Rattle.run.specs.declared.Ran.{Ran}
-use Rattle.run.specs.declared.Ran.TheVariants as R
+use Rattle.run.specs.Ran.{Ran}
+use Rattle.run.specs.Ran as R
 use Rattle.run.specs.Walking.{Course, walk_on, steps_left}
 use Rattle.run.specs.Run.{finish_at, ran_by, ran_over, ran_answer, run_refusal, job_path, job_course}
 use Rattle.run.proofs.WalkingLaws.{same_call}
@@ -93,16 +93,16 @@ module _ (asked : ℕ) (path : PathRuns) where
       })
 
 -- an answer that is finished: nothing was refused, every step was made, and it is told of the course
-finished_answer : (a : ℕ) (y : Ran) (f : Finish) → ran_answer a y ≡ R.Finished f → (a ≡ 0) × (y ≡ R.Finished f)
+finished_answer : (a : ℕ) (y : Ran) (f : Finish) → ran_answer a y ≡ R.finished f → (a ≡ 0) × (y ≡ R.finished f)
 finished_answer zero y f e = (refl, e)
 finished_answer (suc a) y f e = absurd (let z : ◌≡◌ {A = ℕ} 0 1 = cc in omega arith)
 
-finished_course : (n : ℕ) (path : PathRuns) (o : Outcome) (s : Drawn) (r : Reaches) (f : Finish) → ran_by n path o s r ≡ R.Finished f → (o ≡ made) × (finish_at s.vehicle s.station n path r ≡ f)
+finished_course : (n : ℕ) (path : PathRuns) (o : Outcome) (s : Drawn) (r : Reaches) (f : Finish) → ran_by n path o s r ≡ R.finished f → (o ≡ made) × (finish_at s.vehicle s.station n path r ≡ f)
 finished_course n path made s r f e = (refl, cc)
 finished_course n path (refused m) s r f e = absurd (let z : ◌≡◌ {A = ℕ} 0 1 = cc in omega arith)
 finished_course n path (refused_at m u) s r f e = absurd (let z : ◌≡◌ {A = ℕ} 0 1 = cc in omega arith)
 
-pub ran_told : (x : Run) → Ensured x → (f : Finish) → x.answer ≡ R.Finished f → FinishTold x f
+pub ran_told : (x : Run) → Ensured x → (f : Finish) → x.answer ≡ R.finished f → FinishTold x f
 ran_told x h f e =
     let j = x.job in
     let n = length (stations j) in
@@ -132,7 +132,7 @@ ran_told x h f e =
       steps = omega (arith, steps, least);
       answers = subst (λ (p : PathRuns). drawn_answers (from p) (calls p f.steps) ≡ replicate f.steps made) (sym path)
           (subst (λ (k : ℕ). drawn_answers start (calls laid k) ≡ replicate k made) steps w.answers);
-      widest = subst (λ (p : PathRuns). Tells Found Nothing points n p (made_moves (from p) (calls p f.steps)) f.widest) (sym path)
-          (subst (λ (k : ℕ). Tells Found Nothing points n laid (made_moves start (calls laid k)) f.widest) steps
-          (subst (λ (y : Best). Tells Found Nothing points n laid (made_moves start (replicate (steps_left n start) call)) y) (ap (λ (v : Vehicle). widest_among (point_count v) n course.runs) (sym (course_vehicle n laid (steps_left n start) start (cleared n x.reaches))) ∙ ap (λ (y : Finish). y.widest) b.1) told));
+      widest = subst (λ (p : PathRuns). Tells Some None points n p (made_moves (from p) (calls p f.steps)) f.widest) (sym path)
+          (subst (λ (k : ℕ). Tells Some None points n laid (made_moves start (calls laid k)) f.widest) steps
+          (subst (λ (y : Option Place). Tells Some None points n laid (made_moves start (replicate (steps_left n start) call)) y) (ap (λ (v : Vehicle). widest_among (point_count v) n course.runs) (sym (course_vehicle n laid (steps_left n start) start (cleared n x.reaches))) ∙ ap (λ (y : Finish). y.widest) b.1) told));
     }

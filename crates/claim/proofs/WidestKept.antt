@@ -7,15 +7,14 @@ use native.Mathlib.Decide.{dec_lt}
 use native.Mathlib.Omega.{arith}
 use lib.IntN.{ℤ, ◌-ℤ◌}
 use lib.Signed.{◌≤ℤ◌, ◌<ℤ◌, clash_ℤ}
+use Rattle.std.specs.Prelude.{Option, None, Some}
 use Rattle.marks.specs.Count.{point_count}
 use Rattle.path.specs.declared.Station.{Station}
 use Rattle.path.specs.Laying.{PathRuns}
 use Rattle.walk.specs.Drawn.{view, station_at}
 use Rattle.reaches.specs.declared.Place.{Place}
-use Rattle.reaches.specs.declared.Best.{Best}
-use Rattle.reaches.specs.declared.Best.TheVariants.{Nothing, Found}
-use Rattle.reaches.specs.declared.WidestAnswer.{WidestAnswer}
-use Rattle.reaches.specs.declared.WidestAnswer.TheVariants as W
+use Rattle.refusal.specs.Numbers.{Answer}
+use Rattle.refusal.specs.Numbers as W
 use Rattle.reaches.specs.Cells.{Reaches, cell_at}
 use Rattle.reaches.specs.Widest.{width, widest_among, answer_of, widest_answer, IsWidest as IsWidestIn}
 use Rattle.reaches.proofs.WidestLaws.{Right, among_right}
@@ -50,25 +49,25 @@ module _ (n asked : ℕ) (path : PathRuns) (ms : List Moves) where
       λ i. record { station = e i; width = w i; left = l i; right = r i }
 
   -- the best place, told from the moves
-  abbrev RightOf : Best → Type 0
-  RightOf Nothing = NoneWhole n asked path ms
-  RightOf (Found p) = IsWidest n asked path ms p
+  abbrev RightOf : Option Place → Type 0
+  RightOf None = NoneWhole n asked path ms
+  RightOf (Some p) = IsWidest n asked path ms p
 
   -- any answer with a case for a place and one for none
   module _ {A : Type 0} (at : Place → A) (none : A) (inside : (p q : Place) → at p ≡ at q → p ≡ q) (apart : (p : Place) → at p ≡ none → ⊥) where
-    abbrev answered_by : Best → A
-    answered_by Nothing = none
-    answered_by (Found p) = at p
+    abbrev answered_by : Option Place → A
+    answered_by None = none
+    answered_by (Some p) = at p
 
-    tells_one : (b : Best) → RightOf b → Tells at none n asked path ms (answered_by b)
-    tells_one Nothing h = record {
+    tells_one : (b : Option Place) → RightOf b → Tells at none n asked path ms (answered_by b)
+    tells_one None h = record {
       place = λ p e. absurd (apart p (sym e));
       only_place = λ p w. absurd (h p.station w.inside w.whole);
       nowhere = λ e. h;
       only_nowhere = λ n. refl;
       no_other = λ n. refl;
     }
-    tells_one (Found q) h = record {
+    tells_one (Some q) h = record {
       place = λ p e. subst (IsWidest n asked path ms) (inside q p e) h;
       only_place = λ p w. ap at (unique q p h w);
       nowhere = λ e. absurd (apart q e);
@@ -77,12 +76,12 @@ module _ (n asked : ℕ) (path : PathRuns) (ms : List Moves) where
     }
 
     -- and a function that answers so
-    pub tells : (f : Best → A) → f Nothing ≡ none → ((p : Place) → f (Found p) ≡ at p) → (b : Best) → RightOf b → Tells at none n asked path ms (f b)
+    pub tells : (f : Option Place → A) → f None ≡ none → ((p : Place) → f (Some p) ≡ at p) → (b : Option Place) → RightOf b → Tells at none n asked path ms (f b)
     tells f o p b h = subst (Tells at none n asked path ms) (same b) (tells_one b h)
       where
-        same : (x : Best) → answered_by x ≡ f x
-        same Nothing = sym o
-        same (Found q) = sym (p q)
+        same : (x : Option Place) → answered_by x ≡ f x
+        same None = sym o
+        same (Some q) = sym (p q)
 
   -- runs that have kept it all
   module _ (r : Reaches) (k : (i : ℕ) → i < asked → Kept n (station_at path i) ms (cell_at i r)) where
@@ -102,22 +101,22 @@ module _ (n asked : ℕ) (path : PathRuns) (ms : List Moves) where
           earliest = λ i l a. let b : i < asked = let m = h.inside in omega arith in subst (λ (z : ℤ). z <ℤ p.width) (width_kept i b) (h.earliest i l ((k i b).only_whole a));
         }
 
-    best_right : (b : Best) → Right n asked r b → RightOf b
-    best_right Nothing h = λ i l a. let z : true ≡ false = sym ((k i l).only_whole a) ∙ h i l in absurd (let y : ◌≡◌ {A = ℕ} 0 1 = cc in omega arith)
-    best_right (Found p) h = found_right p h
+    best_right : (b : Option Place) → Right n asked r b → RightOf b
+    best_right None h = λ i l a. let z : true ≡ false = sym ((k i l).only_whole a) ∙ h i l in absurd (let y : ◌≡◌ {A = ℕ} 0 1 = cc in omega arith)
+    best_right (Some p) h = found_right p h
 
     among_told : RightOf (widest_among n asked r)
     among_told = best_right (widest_among n asked r) (among_right n asked r)
 
     -- as a run answers it, and as `widest` does
-    pub best_tells : Tells Found Nothing n asked path ms (widest_among n asked r)
-    best_tells = tells Found Nothing (λ p q e. cc) (λ p e. let y : ◌≡◌ {A = ℕ} 0 1 = cc in omega arith) (λ b. b) refl (λ p. refl) (widest_among n asked r) among_told
+    pub best_tells : Tells Some None n asked path ms (widest_among n asked r)
+    best_tells = tells Some None (λ p q e. cc) (λ p e. let y : ◌≡◌ {A = ℕ} 0 1 = cc in omega arith) (λ b. b) refl (λ p. refl) (widest_among n asked r) among_told
 
-    pub answer_tells : Tells W.At (W.Refused 24) n asked path ms (answer_of (widest_among n asked r))
-    answer_tells = tells W.At (W.Refused 24) (λ p q e. cc) (λ p e. let y : ◌≡◌ {A = ℕ} 0 1 = cc in omega arith) answer_of refl (λ p. refl) (widest_among n asked r) among_told
+    pub answer_tells : Tells W.answered (W.refused 24) n asked path ms (answer_of (widest_among n asked r))
+    answer_tells = tells W.answered (W.refused 24) (λ p q e. cc) (λ p e. let y : ◌≡◌ {A = ℕ} 0 1 = cc in omega arith) answer_of refl (λ p. refl) (widest_among n asked r) among_told
 
-pub asked_told : (h : History) → Lawful h → (answer : WidestAnswer) → answer ≡ widest_answer (view (last_of h)) h.asked (runs_of h)
-    → Tells W.At (W.Refused 24) (point_count h.vehicle) h.asked h.path (moves_of h) answer
+pub asked_told : (h : History) → Lawful h → (answer : Answer Place) → answer ≡ widest_answer (view (last_of h)) h.asked (runs_of h)
+    → Tells W.answered (W.refused 24) (point_count h.vehicle) h.asked h.path (moves_of h) answer
 asked_told h l answer e =
     let q = sym (e ∙ sym (read_off h.vehicle (view (last_of h)) h.asked h.path (runs_of h) (end_vehicle h l) (end_sound h l) (left_lent h l))) in
-    subst (Tells W.At (W.Refused 24) (point_count h.vehicle) h.asked h.path (moves_of h)) q (answer_tells (point_count h.vehicle) h.asked h.path (moves_of h) (runs_of h) (kept h l))
+    subst (Tells W.answered (W.refused 24) (point_count h.vehicle) h.asked h.path (moves_of h)) q (answer_tells (point_count h.vehicle) h.asked h.path (moves_of h) (runs_of h) (kept h l))

@@ -24,7 +24,7 @@ use Rattle.points.specs.Points.{point_at, rig_points}
 use Rattle.reaches.specs.Cells.{Reaches, reach_runs, at_stations}
 use Rattle.reaches.specs.Crossing.{reach_of, crosses, crossed_by, crossed_from}
 use Rattle.reaches.specs.Widest.{widest_among}
-use Rattle.run.specs.declared.Ran.TheVariants as R
+use Rattle.run.specs.Ran as R
 use Rattle.run.specs.Walking.{walk_on}
 use Rattle.run.specs.Run.{run_refusal, job_path, job_course}
 use Rattle.claim.specs.WholeRun.{Run, Ensured}
@@ -45,7 +45,7 @@ worked_run = record {
   job = worked_job;
   path = unlaid;
   reaches = uncleared;
-  answer = R.Finished worked_finish;
+  answer = R.finished worked_finish;
   path_left = job_path worked_job unlaid;
   reaches_left = (job_course worked_job unlaid uncleared).runs;
 }

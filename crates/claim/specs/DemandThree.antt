@@ -2,14 +2,13 @@
 use Rattle.std.specs.Prelude.{◌≡◌, List, [], ◌∷◌, map}
 use Rattle.job.specs.declared.Vehicle.{Vehicle}
 use Rattle.walk.specs.declared.Walk.{Walk}
-use Rattle.walk.specs.declared.Advanced.{Advanced}
-use Rattle.walk.specs.Drawn.{Drawn, view, Call, Outcome, made, outcome_of}
+use Rattle.walk.specs.Moving.{Advanced}
+use Rattle.walk.specs.Drawn.{Drawn, view, Call, Outcome, made}
 use Rattle.walk.specs.Tests.{units_in_use}
 use Rattle.walk.specs.Rig.{drawn_start, draw_step}
 use Rattle.reaches.specs.Cells.{Reaches}
-use Rattle.stations.specs.declared.Placing.{Placing}
-use Rattle.stations.specs.declared.PlaceAnswer.TheVariants as P
-use Rattle.stations.specs.Placing.{start_heading, PlaceEnsures}
+use Rattle.stations.specs.Placing as P
+use Rattle.stations.specs.Placing.{Placing, start_heading, PlaceEnsures}
 use Rattle.stations.specs.Stepping.{StepEnsures}
 use Rattle.walk.specs.Rigid.{AllOfLength, StepNear}
 
@@ -47,7 +46,7 @@ Always s (c ∷ cs) =
     × Always (draw_step s c).state cs
 
 pub record Walked (start : Drawn) (w : Walk) (ts : List Turn) : Type 0 where
-  pub answers : map (λ (t : Turn). outcome_of t.result.answer) ts ≡ drawn_answers start (map (λ (t : Turn). t.call) ts)
+  pub answers : map (λ (t : Turn). t.result.answer) ts ≡ drawn_answers start (map (λ (t : Turn). t.call) ts)
   pub ended : view (last_record w ts) ≡ drawn_end start (map (λ (t : Turn). t.call) ts)
   pub kept : Always start (map (λ (t : Turn). t.call) ts)
 
@@ -55,6 +54,6 @@ pub record Walked (start : Drawn) (w : Walk) (ts : List Turn) : Type 0 where
 abbrev pub DemandThree : Type 0
 DemandThree =
     (v : Vehicle) (w : Walk) (c : Call) (before : Reaches) (r : Placing) (after : Reaches)
-    → PlaceEnsures v w c before r after → r.answer ≡ P.Placed
+    → PlaceEnsures v w c before r after → r.answer ≡ P.placed
     → (ts : List Turn) → Chain r.walk ts
     → Walked (drawn_start v (start_heading c)) r.walk ts

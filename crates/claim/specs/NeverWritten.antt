@@ -8,16 +8,15 @@ use Rattle.marks.specs.Marks.{bits_from}
 use Rattle.path.specs.Stations.{stations}
 use Rattle.path.specs.Laying.{PathRuns, LayEnsures}
 use Rattle.walk.specs.declared.Walk.{Walk}
-use Rattle.walk.specs.declared.Advanced.{Advanced}
+use Rattle.walk.specs.Moving.{Advanced}
 use Rattle.walk.specs.Drawn.{Call}
 use Rattle.reaches.specs.Cells.{Reaches}
-use Rattle.stations.specs.declared.Placing.{Placing}
-use Rattle.stations.specs.declared.PlaceAnswer.TheVariants as P
-use Rattle.stations.specs.Placing.{PlaceEnsures}
+use Rattle.stations.specs.Placing as P
+use Rattle.stations.specs.Placing.{Placing, PlaceEnsures}
 use Rattle.stations.specs.Stepping.{StepEnsures}
-use Rattle.run.specs.declared.Ran.TheVariants as R
-use Rattle.ranking.specs.declared.Listed.{Listed}
-use Rattle.bogie.specs.Settings.{Rail}
+use Rattle.run.specs.Ran as R
+use Rattle.ranking.specs.Ranking.{Listed}
+use Rattle.bogie.specs.declared.Rail.{Rail}
 use Rattle.bogie.specs.List.{ListEnsures}
 use Rattle.claim.specs.WholeRun.{Run, Ensured}
 
@@ -52,12 +51,12 @@ pub record StepNever (v : Vehicle) (c : Call) (before after : Reaches) : Type 0 
 
 -- a placement, which clears the marks of the stations asked for, every bit of them; it too only reads the path's runs
 pub record PlaceNever (c : Call) (before : Reaches) (p : Placing) (after : Reaches) : Type 0 where
-  pub cleared : p.answer ≡ P.Placed → (i : ℕ) → i < c.asked → get_or after.marks i 0 ≡ 0
+  pub cleared : p.answer ≡ P.placed → (i : ℕ) → i < c.asked → get_or after.marks i 0 ≡ 0
   pub past : ReachesPastKept c.asked before after
 
 -- a whole job, in all seven runs; where it is not refused it clears the marks, and its steps leave the bits above its points so
 pub record RunNever (x : Run) : Type 0 where
-  pub above : ((m : ℕ) → x.answer ≡ R.Refused m → ⊥) → (i : ℕ) → i < station_count x.job → bits_above x.job.vehicle i x.reaches_left ≡ 0
+  pub above : ((m : ℕ) → x.answer ≡ R.refused m → ⊥) → (i : ℕ) → i < station_count x.job → bits_above x.job.vehicle i x.reaches_left ≡ 0
   pub path_past : PathPastKept (station_count x.job) x.path x.path_left
   pub past : ReachesPastKept (station_count x.job) x.reaches x.reaches_left
 

@@ -7,13 +7,12 @@ use Rattle.job.specs.declared.Job.{Job}
 use Rattle.job.specs.declared.Vehicle.{Vehicle}
 use Rattle.path.specs.Laying.{PathRuns, LayEnsures}
 use Rattle.walk.specs.declared.Walk.{Walk}
-use Rattle.walk.specs.Drawn.{Call, Outcome, made, refused, refused_at, outcome_of}
+use Rattle.walk.specs.Drawn.{Call, Outcome, made, refused, refused_at}
 use Rattle.reaches.specs.Cells.{Reaches, lengths_of}
-use Rattle.stations.specs.declared.Placing.{Placing}
-use Rattle.stations.specs.declared.PlaceAnswer.TheVariants as P
-use Rattle.stations.specs.Placing.{call_of, PlaceEnsures}
-use Rattle.run.specs.declared.Ran.{Ran}
-use Rattle.run.specs.declared.Ran.TheVariants as R
+use Rattle.stations.specs.Placing as P
+use Rattle.stations.specs.Placing.{Placing, call_of, PlaceEnsures}
+use Rattle.run.specs.Ran.{Ran}
+use Rattle.run.specs.Ran as R
 use Rattle.run.specs.Run.{RunEnsures}
 use Rattle.claim.specs.DemandThree.{Turn, Chain}
 use Rattle.claim.specs.WholeRun.{Handed, UntilRefused, Run, Ensured}
@@ -59,7 +58,7 @@ pub record RunCalls (x : Run) (w : Walk) : Type 0 where
   pub placing : Placing
   pub after : Reaches
   pub ensured : PlaceEnsures x.job.vehicle w (call_of n path x.reaches) x.reaches placing after
-  pub placed : placing.answer ≡ P.Placed
+  pub placed : placing.answer ≡ P.placed
   pub turns : List Turn
   pub chain : Chain placing.walk turns
   pub handed : Handed n path after turns
@@ -69,10 +68,10 @@ pub record RunCalls (x : Run) (w : Walk) : Type 0 where
 pub data RunRefused (x : Run) (w : Walk) (m : ℕ) : Type 0 where
   not_laid : (f : Fault) (path : PathRuns) → LayEnsures x.job x.path (Err f) path → number_of f ≡ m → RunRefused x w m
   not_placed : (n : ℕ) (path : PathRuns) (p : Placing) (after : Reaches) → LayEnsures x.job x.path (Ok n) path
-      → PlaceEnsures x.job.vehicle w (call_of n path x.reaches) x.reaches p after → p.answer ≡ P.Refused m → RunRefused x w m
+      → PlaceEnsures x.job.vehicle w (call_of n path x.reaches) x.reaches p after → p.answer ≡ P.refused m → RunRefused x w m
 
 abbrev pub turn_answers : List Turn → List Outcome
-turn_answers ts = map (λ (t : Turn). outcome_of t.result.answer) ts
+turn_answers ts = map (λ (t : Turn). t.result.answer) ts
 
 -- an accepted placement and step calls after it, each telling the lengths of the runs that it is lent, with these answers: what `demand_three` speaks of
 pub record WalkAnswering (answers : List Outcome) : Type 0 where
@@ -84,7 +83,7 @@ pub record WalkAnswering (answers : List Outcome) : Type 0 where
   pub placing : Placing
   pub after : Reaches
   pub ensured : PlaceEnsures vehicle walk (call_of asked path before) before placing after
-  pub placed : placing.answer ≡ P.Placed
+  pub placed : placing.answer ≡ P.placed
   pub turns : List Turn
   pub lengths : map (λ (t : Turn). t.call.reaches) turns ≡ map (λ (t : Turn). lengths_of t.before) turns
   pub chain : Chain placing.walk turns
@@ -104,8 +103,8 @@ pub record PremisesMet : Type 0 where
   pub place : (v : Vehicle) (w : Walk) (c : Call) (before : Reaches) → Placement v w c before
   pub step : (w : Walk) (hs : List Handing) → Calls w hs
   pub run : (j : Job) (path : PathRuns) (reaches : Reaches) → JobRun j path reaches
-  pub run_calls : (x : Run) → Ensured x → ((m : ℕ) → x.answer ≡ R.Refused m → ⊥) → (w : Walk) → RunCalls x w
-  pub run_refused : (x : Run) → Ensured x → (m : ℕ) → x.answer ≡ R.Refused m → (w : Walk) → RunRefused x w m
+  pub run_calls : (x : Run) → Ensured x → ((m : ℕ) → x.answer ≡ R.refused m → ⊥) → (w : Walk) → RunCalls x w
+  pub run_refused : (x : Run) → Ensured x → (m : ℕ) → x.answer ≡ R.refused m → (w : Walk) → RunRefused x w m
   pub walked : WalkAnswering (refused 21 ∷ refused 26 ∷ refused_at 23 2 ∷ refused_at 22 1 ∷ made ∷ refused 27 ∷ refused 25 ∷ [])
   pub finished : RunAnswering (made ∷ refused 25 ∷ [])
   pub stopped : RunAnswering (made ∷ refused_at 22 1 ∷ [])

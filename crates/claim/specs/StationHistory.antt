@@ -9,15 +9,14 @@ use Rattle.marks.specs.Marks.{has_bit}
 use Rattle.path.specs.declared.Station.{Station}
 use Rattle.path.specs.Laying.{PathRuns}
 use Rattle.walk.specs.declared.Walk.{Walk}
-use Rattle.walk.specs.Drawn.{Drawn, Call, station_at, Outcome, made, refused, refused_at, outcome_of}
+use Rattle.walk.specs.Drawn.{Drawn, Call, station_at, Outcome, made, refused, refused_at}
 use Rattle.walk.specs.Rig.{zero_vector, drawn_start, draw_step}
 use Rattle.reaches.specs.declared.Cell.{Cell}
 use Rattle.reaches.specs.Cells.{Reaches, cell_at, cleared_cell}
 use Rattle.reaches.specs.Crossing.{reach_of, crosses, smaller, greater}
 use Rattle.reaches.specs.Widest.{complete}
-use Rattle.stations.specs.declared.Placing.{Placing}
-use Rattle.stations.specs.declared.PlaceAnswer.TheVariants as P
-use Rattle.stations.specs.Placing.{call_of, start_heading, PlaceEnsures}
+use Rattle.stations.specs.Placing as P
+use Rattle.stations.specs.Placing.{Placing, call_of, start_heading, PlaceEnsures}
 use Rattle.stations.specs.Stepping.{points_at, if_made, StepEnsures}
 use Rattle.claim.specs.DemandThree.{Turn, Chain}
 
@@ -100,14 +99,14 @@ place_call h = call_of h.asked h.path h.before
 
 -- the placement's runs after a call: as it left them where it was made, as they were where it was refused
 abbrev pub left_by : Reaches → Turn → Reaches
-left_by r t = if_made (outcome_of t.result.answer) t.after r
+left_by r t = if_made t.result.answer t.after r
 
 -- every call that is made is over these stations and this path, and is handed the placement's runs as they were last left;
 -- one that is refused may bring anything: its own number of stations, its own path, its own runs
 unfoldable pub MadeOver : ℕ → PathRuns → Reaches → List Turn → Type 0
 MadeOver asked path r [] = Unit {0}
 MadeOver asked path r (t ∷ ts) =
-    (outcome_of t.result.answer ≡ made → (t.before ≡ r) × (t.call ≡ call_of asked path r))
+    (t.result.answer ≡ made → (t.before ≡ r) × (t.call ≡ call_of asked path r))
     × MadeOver asked path (left_by r t) ts
 
 unfoldable pub runs_left : Reaches → List Turn → Reaches
@@ -117,7 +116,7 @@ runs_left r (t ∷ ts) = runs_left (left_by r t) ts
 -- the placement was accepted, each call's outcome is what `step` ensures at the record that the one before left, and those made are over the placement's path and runs
 pub record Lawful (h : History) : Type 0 where
   pub placement : PlaceEnsures h.vehicle h.walk (place_call h) h.before h.placing h.after
-  pub accepted : h.placing.answer ≡ P.Placed
+  pub accepted : h.placing.answer ≡ P.placed
   pub chain : Chain h.placing.walk h.turns
   pub over : MadeOver h.asked h.path h.after h.turns
 
@@ -130,7 +129,7 @@ abbrev pub runs_of : History → Reaches
 runs_of h = runs_left h.after h.turns
 
 abbrev pub answers_of : History → List Outcome
-answers_of h = map (λ (t : Turn). outcome_of t.result.answer) h.turns
+answers_of h = map (λ (t : Turn). t.result.answer) h.turns
 
 -- the claim: after an accepted placement and any calls every station of its path has kept just what the made steps gave it;
 -- where any point has crossed, left and right are reaches that entered, the cleared values lying beyond them all (a vehicle has four places for units, by its type);
@@ -139,5 +138,5 @@ pub record StationHistory : Type 0 where
   pub kept : (h : History) → Lawful h → (i : ℕ) → i < h.asked → Kept (point_count h.vehicle) (station_at h.path i) (moves_of h) (cell_at i (runs_of h))
   pub entered : (h : History) → Lawful h → length h.vehicle.units ≡ 4 → (i : ℕ) → i < h.asked → let s = station_at h.path i in
       (p : ℕ) → p < point_count h.vehicle → ever_crossed p s (moves_of h) ≡ true → Extremes (entering s (moves_of h)) (left_of s (moves_of h)) (right_of s (moves_of h))
-  pub refused_leaves : (w : Walk) (t : Turn) → StepEnsures w t.call t.before t.result t.after → (outcome_of t.result.answer ≡ made → ⊥) → t.after ≡ t.before
+  pub refused_leaves : (w : Walk) (t : Turn) → StepEnsures w t.call t.before t.result t.after → (t.result.answer ≡ made → ⊥) → t.after ≡ t.before
   pub some_calls : (h : History) × Lawful h × (answers_of h ≡ made ∷ refused 21 ∷ refused 26 ∷ made ∷ refused 27 ∷ refused_at 22 1 ∷ made ∷ refused 25 ∷ [])

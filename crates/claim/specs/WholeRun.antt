@@ -7,14 +7,13 @@ use Rattle.job.specs.declared.Vehicle.{Vehicle}
 use Rattle.marks.specs.Count.{point_count}
 use Rattle.path.specs.Laying.{PathRuns, LayEnsures}
 use Rattle.walk.specs.declared.Walk.{Walk}
-use Rattle.walk.specs.Drawn.{view, Outcome, made, refused, refused_at, outcome_of}
+use Rattle.walk.specs.Drawn.{view, Outcome, made, refused, refused_at}
 use Rattle.reaches.specs.Cells.{Reaches}
 use Rattle.reaches.specs.Widest.{widest_among, answer_of, widest_answer}
-use Rattle.stations.specs.declared.Placing.{Placing}
-use Rattle.stations.specs.declared.PlaceAnswer.TheVariants as P
-use Rattle.stations.specs.Placing.{call_of, PlaceEnsures}
-use Rattle.run.specs.declared.Ran.{Ran}
-use Rattle.run.specs.declared.Ran.TheVariants as R
+use Rattle.stations.specs.Placing as P
+use Rattle.stations.specs.Placing.{Placing, call_of, PlaceEnsures}
+use Rattle.run.specs.Ran.{Ran}
+use Rattle.run.specs.Ran as R
 use Rattle.run.specs.Run.{finish_at, RunEnsures}
 use Rattle.claim.specs.DemandThree.{Turn, Chain, last_record}
 
@@ -30,20 +29,20 @@ last_runs r (t ∷ ts) = last_runs t.after ts
 -- step calls until one is refused: every call but the last is made
 unfoldable pub UntilRefused : List Turn → Type 0
 UntilRefused [] = ⊥
-UntilRefused (t ∷ []) = outcome_of t.result.answer ≡ made → ⊥
-UntilRefused (t ∷ u ∷ ts) = (outcome_of t.result.answer ≡ made) × UntilRefused (u ∷ ts)
+UntilRefused (t ∷ []) = t.result.answer ≡ made → ⊥
+UntilRefused (t ∷ u ∷ ts) = (t.result.answer ≡ made) × UntilRefused (u ∷ ts)
 
 -- what the last of them answered
 unfoldable pub last_answer : List Turn → Outcome
 last_answer [] = made
-last_answer (t ∷ []) = outcome_of t.result.answer
+last_answer (t ∷ []) = t.result.answer
 last_answer (t ∷ u ∷ ts) = last_answer (u ∷ ts)
 
 -- what these calls tell of a vehicle, over n stations, w being the record and r the runs that they left: refused by 25 the rig has come to the last station, by the calls before that one;
 -- refused at a unit, it is that call which is named, counted from 1; by no other number are they refused
 pub record Told (v : Vehicle) (w : Walk) (n : ℕ) (path : PathRuns) (r : Reaches) (ts : List Turn) (answer : Ran) : Type 0 where
-  pub finished : last_answer ts ≡ refused 25 → answer ≡ R.Finished (finish_at v (length ts - 1) n path r)
-  pub stopped : (m u : ℕ) → last_answer ts ≡ refused_at m u → answer ≡ R.Stopped m u (length ts)
+  pub finished : last_answer ts ≡ refused 25 → answer ≡ R.finished (finish_at v (length ts - 1) n path r)
+  pub stopped : (m u : ℕ) → last_answer ts ≡ refused_at m u → answer ≡ R.stopped m u (length ts)
   pub only : (m : ℕ) → last_answer ts ≡ refused m → m ≡ 25
   pub widest : answer_of (widest_among (point_count v) n r) ≡ widest_answer (view w) n r
 
@@ -61,7 +60,7 @@ Ensured x = RunEnsures x.job x.path x.reaches x.answer x.path_left x.reaches_lef
 
 -- refused, with nothing written
 pub record Untouched (x : Run) (m : ℕ) : Type 0 where
-  pub answer : x.answer ≡ R.Refused m
+  pub answer : x.answer ≡ R.refused m
   pub path : x.path_left ≡ x.path
   pub reaches : x.reaches_left ≡ x.reaches
 
@@ -76,9 +75,9 @@ pub record WholeRun : Type 0 where
   pub not_laid : (x : Run) → Ensured x → (f : Fault) (laid : PathRuns) → LayEnsures x.job x.path (Err f) laid → Untouched x (number_of f)
   pub not_placed : (x : Run) → Ensured x → (n : ℕ) (laid : PathRuns) → LayEnsures x.job x.path (Ok n) laid
       → (w : Walk) (p : Placing) (after : Reaches) → PlaceEnsures x.job.vehicle w (call_of n laid x.reaches) x.reaches p after
-      → (m : ℕ) → p.answer ≡ P.Refused m → Untouched x m
+      → (m : ℕ) → p.answer ≡ P.refused m → Untouched x m
   pub walked : (x : Run) → Ensured x → (n : ℕ) (laid : PathRuns) → LayEnsures x.job x.path (Ok n) laid
       → (w : Walk) (p : Placing) (after : Reaches) → PlaceEnsures x.job.vehicle w (call_of n laid x.reaches) x.reaches p after
-      → p.answer ≡ P.Placed
+      → p.answer ≡ P.placed
       → (ts : List Turn) → Chain p.walk ts → Handed n laid after ts → UntilRefused ts
       → Followed x p.walk n laid after ts

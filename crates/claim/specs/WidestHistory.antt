@@ -1,5 +1,5 @@
 -- Where the rig is widest, told from the moves of the drawn rig and not from the runs (01, "Stations and the widest place").
-use Rattle.std.specs.Prelude.{ℕ, ◌+◌, ◌<◌, ◌≡◌, List, length, replicate, ℤ, pos, negsuc, ◌-ℤ◌, ◌≤ℤ◌, ◌<ℤ◌}
+use Rattle.std.specs.Prelude.{ℕ, ◌+◌, ◌<◌, ◌≡◌, None, Some, List, length, replicate, ℤ, pos, negsuc, ◌-ℤ◌, ◌≤ℤ◌, ◌<ℤ◌}
 use Rattle.marks.specs.Count.{point_count}
 use Rattle.path.specs.declared.Station.{Station}
 use Rattle.path.specs.Stations.{stations}
@@ -8,13 +8,12 @@ use Rattle.walk.specs.declared.Walk.{Walk}
 use Rattle.walk.specs.Drawn.{Drawn, view, Call, station_at, made}
 use Rattle.walk.specs.Rig.{drawn_start}
 use Rattle.reaches.specs.declared.Place.{Place}
-use Rattle.reaches.specs.declared.Best.TheVariants.{Nothing, Found}
-use Rattle.reaches.specs.declared.WidestAnswer.{WidestAnswer}
-use Rattle.reaches.specs.declared.WidestAnswer.TheVariants as W
+use Rattle.refusal.specs.Numbers.{Answer}
+use Rattle.refusal.specs.Numbers as W
 use Rattle.reaches.specs.Widest.{widest_answer}
 use Rattle.stations.specs.Placing.{call_of, start_heading}
 use Rattle.run.specs.declared.Finish.{Finish}
-use Rattle.run.specs.declared.Ran.TheVariants as R
+use Rattle.run.specs.Ran as R
 use Rattle.claim.specs.DemandThree.{drawn_answers, last_record}
 use Rattle.claim.specs.StationHistory.{Moves, made_moves, left_of, right_of, AllCrossed, History, Lawful, moves_of, runs_of}
 use Rattle.claim.specs.WholeRun.{Run, Ensured}
@@ -64,7 +63,7 @@ pub record FinishTold (x : Run) (f : Finish) : Type 0 where
   pub path : x.path_left ≡ written (stations x.job) x.path
   pub steps : f.steps + 1 ≡ length (stations x.job)
   pub answers : drawn_answers (run_start x) (run_calls x f.steps) ≡ replicate f.steps made
-  pub widest : Tells Found Nothing (point_count x.job.vehicle) (length (stations x.job)) x.path_left (made_moves (run_start x) (run_calls x f.steps)) f.widest
+  pub widest : Tells Some None (point_count x.job.vehicle) (length (stations x.job)) x.path_left (made_moves (run_start x) (run_calls x f.steps)) f.widest
 
 -- stations are as wide as each other: the lowest number is answered, of a rig 2,000 ticks wide on a straight
 abbrev pub lowest : Place
@@ -73,10 +72,10 @@ lowest = record { station = 1; width = pos 2000; left = negsuc 999; right = pos 
 -- the claim: of what `widest` answers after an accepted placement and any calls, handed the record that the last of them left, and of what a run that is finished answers;
 -- and there are such calls, with a later station as wide, or none that the whole rig has crossed, and such a run: the worked job
 pub record WidestHistory : Type 0 where
-  pub asked : (h : History) → Lawful h → (answer : WidestAnswer) → answer ≡ widest_answer (view (last_of h)) h.asked (runs_of h)
-      → Tells W.At (W.Refused 24) (point_count h.vehicle) h.asked h.path (moves_of h) answer
-  pub ran : (x : Run) → Ensured x → (f : Finish) → x.answer ≡ R.Finished f → FinishTold x f
-  pub some_tie : (h : History) × Lawful h × (widest_answer (view (last_of h)) h.asked (runs_of h) ≡ W.At lowest)
+  pub asked : (h : History) → Lawful h → (answer : Answer Place) → answer ≡ widest_answer (view (last_of h)) h.asked (runs_of h)
+      → Tells W.answered (W.refused 24) (point_count h.vehicle) h.asked h.path (moves_of h) answer
+  pub ran : (x : Run) → Ensured x → (f : Finish) → x.answer ≡ R.finished f → FinishTold x f
+  pub some_tie : (h : History) × Lawful h × (widest_answer (view (last_of h)) h.asked (runs_of h) ≡ W.answered lowest)
       × AllCrossed (point_count h.vehicle) (station_at h.path 2) (moves_of h) × (width_of (station_at h.path 2) (moves_of h) ≡ pos 2000)
-  pub some_none : (h : History) × Lawful h × (widest_answer (view (last_of h)) h.asked (runs_of h) ≡ W.Refused 24)
-  pub some_run : (x : Run) × Ensured x × (x.job ≡ worked_job) × (x.answer ≡ R.Finished worked_finish)
+  pub some_none : (h : History) × Lawful h × (widest_answer (view (last_of h)) h.asked (runs_of h) ≡ W.refused 24)
+  pub some_run : (x : Run) × Ensured x × (x.job ≡ worked_job) × (x.answer ≡ R.finished worked_finish)

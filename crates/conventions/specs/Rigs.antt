@@ -2,7 +2,6 @@
 use Rattle.std.specs.Prelude.{ℕ, List, [], ◌∷◌, map, length, replicate, ℤ, pos}
 use Rattle.std.proofs.lemmas.List.Edits.{sets}
 use Rattle.plane.specs.declared.Vec2.{Vec2}
-use Rattle.job.specs.declared.Body.{Body}
 use Rattle.job.specs.declared.Form.TheVariants.{Short, Long}
 use Rattle.job.specs.declared.Unit.{Unit as VehicleUnit}
 use Rattle.job.specs.declared.Vehicle.{Vehicle}

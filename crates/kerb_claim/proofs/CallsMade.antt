@@ -7,7 +7,7 @@ use native.Mathlib.Omega.{arith}
 use Rattle.number.proofs.FieldCodec.{and}
 use Rattle.path.specs.Laying.{PathRuns}
 use Rattle.walk.specs.declared.Walk.{Walk}
-use Rattle.walk.specs.Drawn.{view, Lengths, station_at, Outcome, made, refused, refused_at, outcome_of}
+use Rattle.walk.specs.Drawn.{view, Lengths, station_at, Outcome, made, refused, refused_at}
 use Rattle.walk.specs.Tests.{lent, path_lent, reaches_lent, path_sound, record_sound}
 use Rattle.walk.specs.Rig.{turned_down, draw_step}
 use Rattle.reaches.specs.Cells.{Reaches, lengths_of}
@@ -51,7 +51,7 @@ module _ (asked : ℕ) (path : PathRuns) where
   until_over (suc n) w r e =
       let t = next w r in
       let o : CallOver asked path t = record { asked = refl; path = refl; room = e } in
-      by_answer asked path (AllOver asked path) (outcome_of t.result.answer) (t ∷ turns_until asked path n t.result.walk t.after) (t ∷ [])
+      by_answer asked path (AllOver asked path) t.result.answer (t ∷ turns_until asked path n t.result.walk t.after) (t ∷ [])
       (λ m. (o, until_over n t.result.walk t.after (roomy_still w r e))) (λ m. (o, tt))
 
 module _ (q : Question) (runs : Reaches) (room : reaches_lent q.asked (lengths_of runs) ≡ true) where

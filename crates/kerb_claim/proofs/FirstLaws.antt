@@ -17,8 +17,8 @@ use Rattle.run.specs.Walking.{steps_left}
 use Rattle.claim.specs.DemandThree.{Turn}
 use Rattle.kerb_line.specs.Kerb.{vertices, kerb_lent, kerb_sound}
 use Rattle.kerb_line.specs.Contact.{lowest_touch}
-use Rattle.kerb_report.specs.declared.KerbReport.{KerbReport}
-use Rattle.kerb_report.specs.declared.KerbReport.TheVariants as R
+use Rattle.kerb_report.specs.Answers.{KerbReport}
+use Rattle.kerb_report.specs.Answers as R
 use Rattle.kerb_report.specs.Report.{call_over, first_or, after_step, look_ahead, report_of}
 use Rattle.kerb_claim.specs.FirstTouch.{Question, ReportAnswered, CallsMade, RefusedFor, as_step, kerb_short, kerb_unsound, FirstTouch}
 use Rattle.kerb_claim.proofs.StepLaws.{down, step_21, step_26, step_27}
@@ -27,10 +27,10 @@ use Rattle.kerb_claim.proofs.CallsMade.{calls_there}
 
 -- a look ahead is never refused before a step
 abbrev Unrefused : KerbReport → Type 0
-Unrefused R.Nothing = Unit {0}
-Unrefused (R.Touch k p) = Unit {0}
-Unrefused (R.Stopped m u k) = Unit {0}
-Unrefused (R.Refused m) = ⊥
+Unrefused R.nothing = Unit {0}
+Unrefused (R.touch k p) = Unit {0}
+Unrefused (R.stopped m u k) = Unit {0}
+Unrefused (R.refused m) = ⊥
 
 first_unrefused : (k : ℕ) (x : Option ℕ) (r : KerbReport) → Unrefused r → Unrefused (first_or k x r)
 first_unrefused k None r h = h
@@ -58,7 +58,7 @@ module _ (q : Question) where
   look = look_ahead (steps_left q.asked s) q.asked q.path (vertices q.count q.kerb) s
 
   abbrev tested : Bool → Bool → Bool → Bool → Bool → KerbReport
-  tested a b c d e = pick a (pick b (pick c (pick d (pick e look (R.Refused 27)) (R.Refused 26)) (R.Refused 26)) (R.Refused 21)) (R.Refused 21)
+  tested a b c d e = pick a (pick b (pick c (pick d (pick e look (R.refused 27)) (R.refused 26)) (R.refused 26)) (R.refused 21)) (R.refused 21)
 
   -- not refused: the tests passed
   record Passed (r : KerbReport) : Type 0 where
@@ -87,11 +87,11 @@ module _ (q : Question) where
       (followed q.asked q.path q.count q.kerb p.path p.stations (steps_left q.asked s) q.walk ts p.rig (omega (arith, (sound_record q.asked s p.rig).station)) w.chain w.over w.until)
 
   -- refused
-  same_number : {m n : ℕ} → R.Refused m ≡ R.Refused n → m ≡ n
+  same_number : {m n : ℕ} → R.refused m ≡ R.refused n → m ≡ n
   same_number e = cc
 
   refused_by : (a b c d e : Bool) → path_lent q.asked q.path ≡ a → kerb_lent q.count q.kerb ≡ b → path_sound q.asked q.path ≡ c → kerb_sound q.count q.kerb ≡ d → record_sound q.asked s ≡ e
-      → (m : ℕ) → R.Refused m ≡ tested a b c d e → RefusedFor q m
+      → (m : ℕ) → R.refused m ≡ tested a b c d e → RefusedFor q m
   refused_by false b c d e pa pb pc pd pe m f = as_step (λ t k o. down q.asked q.path q.walk t k o m (rw (same_number f) (step_21 q.asked q.path s pa)))
   refused_by true false c d e pa pb pc pd pe m f = kerb_short (same_number f) pb
   refused_by true true false d e pa pb pc pd pe m f = as_step (λ t k o. down q.asked q.path q.walk t k o m (rw (same_number f) (step_26 q.asked q.path s pa pc)))
@@ -99,15 +99,15 @@ module _ (q : Question) where
   refused_by true true true true false pa pb pc pd pe m f = as_step (λ t k o. down q.asked q.path q.walk t k o m (rw (same_number f) (step_27 q.asked q.path s pa pc pe)))
   refused_by true true true true true pa pb pc pd pe m f = absurd (subst Unrefused (sym f) (look_unrefused q.asked q.path (vertices q.count q.kerb) (steps_left q.asked s) s))
 
-  refused_for : (m : ℕ) → ReportAnswered q (R.Refused m) → RefusedFor q m
+  refused_for : (m : ℕ) → ReportAnswered q (R.refused m) → RefusedFor q m
   unfolding report_of
   refused_for m a = refused_by (path_lent q.asked q.path) (kerb_lent q.count q.kerb) (path_sound q.asked q.path) (kerb_sound q.count q.kerb) (record_sound q.asked s) refl refl refl refl refl m a.answer
 
 pub first_touch_lem : FirstTouch
 first_touch_lem = record {
-  touch = λ q ts w k p a. seen q ts w (R.Touch k p) tt a;
-  nothing = λ q ts w a. seen q ts w R.Nothing tt a;
-  stopped = λ q ts w m u k a. seen q ts w (R.Stopped m u k) tt a;
+  touch = λ q ts w k p a. seen q ts w (R.touch k p) tt a;
+  nothing = λ q ts w a. seen q ts w R.nothing tt a;
+  stopped = λ q ts w m u k a. seen q ts w (R.stopped m u k) tt a;
   refused = λ q m a. refused_for q m a;
   calls = λ q runs e. calls_there q runs e;
 }

@@ -10,7 +10,7 @@ use Rattle.plane.specs.declared.Vec2.{Vec2}
 use Rattle.job.specs.declared.Vehicle.{Vehicle}
 use Rattle.path.specs.Laying.{PathRuns}
 use Rattle.walk.specs.declared.Walk.{Walk}
-use Rattle.walk.specs.Drawn.{Drawn, view, Call, Outcome, made, refused, refused_at, outcome_of}
+use Rattle.walk.specs.Drawn.{Drawn, view, Call, Outcome, made, refused, refused_at}
 use Rattle.walk.specs.Tests.{path_lent, path_sound, record_sound}
 use Rattle.walk.specs.Rig.{Stepped, zero_vector}
 use Rattle.walk.proofs.RecordTests.{sound_record}
@@ -26,8 +26,8 @@ use Rattle.claim.specs.DemandThree.{Turn, Chain}
 use Rattle.claim.specs.WholeRun.{UntilRefused, last_answer}
 use Rattle.kerb_line.specs.Kerb.{KerbRuns, vertices}
 use Rattle.kerb_line.specs.Contact.{Segment, segments, lowest_touch}
-use Rattle.kerb_report.specs.declared.KerbReport.{KerbReport}
-use Rattle.kerb_report.specs.declared.KerbReport.TheVariants as R
+use Rattle.kerb_report.specs.Answers.{KerbReport}
+use Rattle.kerb_report.specs.Answers as R
 use Rattle.kerb_report.specs.Report.{call_over, first_or, after_step, look_ahead}
 use Rattle.kerb_report.proofs.LookLaws.{over_lent}
 use Rattle.kerb_report.proofs.RangeLaws.{AnswersSo, step_answers}
@@ -47,13 +47,13 @@ module _ (asked : ℕ) (path : PathRuns) (count : ℕ) (kerb : KerbRuns) where
 
   -- what a look ahead says of the calls; it is never refused before a step
   abbrev pub Seen : Walk → List Turn → KerbReport → Type 0
-  Seen w ts R.Nothing = ClearToEnd (from w) ts
-  Seen w ts (R.Touch k p) = FirstAt (from w) ts k p
-  Seen w ts (R.Stopped m u k) = ClearToStop (from w) ts m u k
-  Seen w ts (R.Refused m) = ⊥
+  Seen w ts R.nothing = ClearToEnd (from w) ts
+  Seen w ts (R.touch k p) = FirstAt (from w) ts k p
+  Seen w ts (R.stopped m u k) = ClearToStop (from w) ts m u k
+  Seen w ts (R.refused m) = ⊥
 
   -- one call alone, refused: no call is made
-  alone_clear : (w : Walk) (t : Turn) → (outcome_of t.result.answer ≡ made → ⊥) → NoTouch (from w) (t ∷ [])
+  alone_clear : (w : Walk) (t : Turn) → (t.result.answer ≡ made → ⊥) → NoTouch (from w) (t ∷ [])
   unfolding MadeCall
   alone_clear w t n zero p m x = n m
   alone_clear w t n (suc i) p m x = absurd m
@@ -71,8 +71,8 @@ module _ (asked : ℕ) (path : PathRuns) (count : ℕ) (kerb : KerbRuns) where
 
     shifted : (u : Turn) (ts : List Turn) (r : KerbReport) → Seen t.result.walk (u ∷ ts) r → Seen w (t ∷ u ∷ ts) r
     unfolding MadeCall record_after last_answer
-    shifted u ts R.Nothing h = record { clear = clear_all (u ∷ ts) h.clear; ended = h.ended }
-    shifted u ts (R.Touch k p) h = record {
+    shifted u ts R.nothing h = record { clear = clear_all (u ∷ ts) h.clear; ended = h.ended }
+    shifted u ts (R.touch k p) h = record {
       call = suc h.call;
       counted = let e = h.counted in omega arith;
       is_made = h.is_made;
@@ -81,8 +81,8 @@ module _ (asked : ℕ) (path : PathRuns) (count : ℕ) (kerb : KerbRuns) where
       lower = h.lower;
       earlier = clear_before h.call (u ∷ ts) h.earlier;
     }
-    shifted u ts (R.Stopped m v k) h = record { clear = clear_all (u ∷ ts) h.clear; ended = h.ended; counted = let e = h.counted in omega arith }
-    shifted u ts (R.Refused m) h = h
+    shifted u ts (R.stopped m v k) h = record { clear = clear_all (u ∷ ts) h.clear; ended = h.ended; counted = let e = h.counted in omega arith }
+    shifted u ts (R.refused m) h = h
 
   module _ (lent : path_lent asked path ≡ true) (sound : path_sound asked path ≡ true) where
     -- one call of a walk that is not at its last station
@@ -115,14 +115,14 @@ module _ (asked : ℕ) (path : PathRuns) (count : ℕ) (kerb : KerbRuns) where
       meets_of : (p : ℕ) → Touches path ss w t.result.walk p → (p < length olds) × MeetsOne (get_or olds p zero_vector) (get_or news p zero_vector) ss
       meets_of p x = (rw olds_count x.point, record { segment = x.segment; among = x.among; meeting = x.meeting })
 
-      made_kept : outcome_of t.result.answer ≡ made → (record_sound asked (view t.result.walk) ≡ true) × (t.result.walk.station ≡ w.station + 1)
+      made_kept : t.result.answer ≡ made → (record_sound asked (view t.result.walk) ≡ true) × (t.result.walk.station ≡ w.station + 1)
       made_kept m =
           let q = made_step_lem (view w) call is_on (sym (answered asked path w t k o) ∙ m) in
           let e = left asked path w t k o in
           (subst (λ (s : Drawn). record_sound asked s ≡ true) (sym e) q.0, ap (λ (s : Drawn). s.station) e ∙ q.1)
 
       -- the first touch in it
-      touched : (ts : List Turn) (p : ℕ) → outcome_of t.result.answer ≡ made → ContactSays olds news ss (Some p) → FirstAt (from w) (t ∷ ts) (w.station + 1) p
+      touched : (ts : List Turn) (p : ℕ) → t.result.answer ≡ made → ContactSays olds news ss (Some p) → FirstAt (from w) (t ∷ ts) (w.station + 1) p
       unfolding MadeCall record_after
       touched ts p m c = record {
         call = 0;
@@ -135,8 +135,8 @@ module _ (asked : ℕ) (path : PathRuns) (count : ℕ) (kerb : KerbRuns) where
       }
 
       -- by its answer
-      by_answer : (a : Outcome) → outcome_of t.result.answer ≡ a → AnswersSo a → (x : Option ℕ) → ContactSays olds news ss x
-          → (ts : List Turn) → UntilRefused (t ∷ ts) → (later : KerbReport) → (outcome_of t.result.answer ≡ made → UntilRefused ts → Seen t.result.walk ts later)
+      by_answer : (a : Outcome) → t.result.answer ≡ a → AnswersSo a → (x : Option ℕ) → ContactSays olds news ss x
+          → (ts : List Turn) → UntilRefused (t ∷ ts) → (later : KerbReport) → (t.result.answer ≡ made → UntilRefused ts → Seen t.result.walk ts later)
           → Seen w (t ∷ ts) (after_step (w.station + 1) a (first_or (w.station + 1) x later))
       unfolding UntilRefused last_answer
       by_answer made e a x c [] q later rest = absurd (q e)
@@ -147,18 +147,18 @@ module _ (asked : ℕ) (path : PathRuns) (count : ℕ) (kerb : KerbRuns) where
       by_answer (refused_at m v) e a x c (u ∷ ts) q later rest = absurd (unit_not_made m v (sym e ∙ q.0))
 
       pub one_step : (n : ℕ) (ts : List Turn) → UntilRefused (t ∷ ts)
-          → (outcome_of t.result.answer ≡ made → UntilRefused ts → Seen t.result.walk ts (look_ahead n asked path (vertices count kerb) (view t.result.walk)))
+          → (t.result.answer ≡ made → UntilRefused ts → Seen t.result.walk ts (look_ahead n asked path (vertices count kerb) (view t.result.walk)))
           → Seen w (t ∷ ts) (look_ahead (suc n) asked path (vertices count kerb) (view w))
       unfolding look_ahead
       one_step n ts q rest =
           let f : Stepped → KerbReport = λ x. after_step (w.station + 1) x.answer (first_or (w.station + 1) (lowest_touch olds (points_at x.state call) (vertices count kerb)) (look_ahead n asked path (vertices count kerb) x.state)) in
           let e = answered asked path w t k o in
           subst (Seen w (t ∷ ts)) (ap f (stepped asked path w t k o))
-          (by_answer (outcome_of t.result.answer) refl (rw e (step_answers (view w) call is_on)) (lowest_touch olds news (vertices count kerb)) says ts q (look_ahead n asked path (vertices count kerb) (view t.result.walk)) rest)
+          (by_answer t.result.answer refl (rw e (step_answers (view w) call is_on)) (lowest_touch olds news (vertices count kerb)) says ts q (look_ahead n asked path (vertices count kerb) (view t.result.walk)) rest)
 
     -- at the last station
     last_step : (w : Walk) (t : Turn) → StepEnsures w t.call t.before t.result t.after → CallOver asked path t → record_sound asked (view w) ≡ true → asked ≤ w.station + 1
-        → outcome_of t.result.answer ≡ refused 25
+        → t.result.answer ≡ refused 25
     last_step w t k o rig h = down asked path w t k o 25 (step_25 asked path (view w) lent sound rig h)
 
     -- every call, from any station on
@@ -168,7 +168,7 @@ module _ (asked : ℕ) (path : PathRuns) (count : ℕ) (kerb : KerbRuns) where
     followed n w [] rig e c o q = absurd q
     followed zero w (t ∷ ts) rig e c o q = end (last_step w t c.0 o.0 rig (omega arith)) ts q
       where
-        end : outcome_of t.result.answer ≡ refused 25 → (us : List Turn) → UntilRefused (t ∷ us) → Seen w (t ∷ us) (look_ahead 0 asked path (vertices count kerb) (view w))
+        end : t.result.answer ≡ refused 25 → (us : List Turn) → UntilRefused (t ∷ us) → Seen w (t ∷ us) (look_ahead 0 asked path (vertices count kerb) (view w))
         end f [] r = record { clear = alone_clear w t (λ m. refused_not_made 25 (sym f ∙ m)); ended = f }
         end f (u ∷ us) r = absurd (refused_not_made 25 (sym f ∙ r.0))
     followed (suc n) w (t ∷ ts) rig e c o q =

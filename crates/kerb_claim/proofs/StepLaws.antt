@@ -7,7 +7,7 @@ use borrow.Author.Tests.{le-leb}
 use Rattle.number.proofs.FieldCodec.{and}
 use Rattle.path.specs.Laying.{PathRuns}
 use Rattle.walk.specs.declared.Walk.{Walk}
-use Rattle.walk.specs.Drawn.{Drawn, Lengths, view, Call, refused, outcome_of}
+use Rattle.walk.specs.Drawn.{Drawn, Lengths, view, Call, refused}
 use Rattle.walk.specs.Tests.{lent, path_lent, reaches_lent, path_sound, record_sound}
 use Rattle.walk.specs.Rig.{Stepped, turned_down, draw_step}
 use Rattle.stations.specs.Stepping.{StepEnsures}
@@ -59,14 +59,14 @@ module _ (asked : ℕ) (path : PathRuns) (s : Drawn) where
 
 -- one such call: what it answers and leaves
 module _ (asked : ℕ) (path : PathRuns) (w : Walk) (t : Turn) (k : StepEnsures w t.call t.before t.result t.after) (o : CallOver asked path t) where
-  pub stepped : record { answer = outcome_of t.result.answer; state = view t.result.walk } ≡ draw_step (view w) (call_over asked path)
+  pub stepped : record { answer = t.result.answer; state = view t.result.walk } ≡ draw_step (view w) (call_over asked path)
   stepped = k.stepped ∙ same_step asked path (view w) t.call o.asked o.path o.room
 
-  pub answered : outcome_of t.result.answer ≡ (draw_step (view w) (call_over asked path)).answer
+  pub answered : t.result.answer ≡ (draw_step (view w) (call_over asked path)).answer
   answered = ap (λ (x : Stepped). x.answer) stepped
 
   pub left : view t.result.walk ≡ (draw_step (view w) (call_over asked path)).state
   left = ap (λ (x : Stepped). x.state) stepped
 
-  pub down : (m : ℕ) → draw_step (view w) (call_over asked path) ≡ turned_down (view w) m → outcome_of t.result.answer ≡ refused m
+  pub down : (m : ℕ) → draw_step (view w) (call_over asked path) ≡ turned_down (view w) m → t.result.answer ≡ refused m
   down m e = answered ∙ ap (λ (x : Stepped). x.answer) e

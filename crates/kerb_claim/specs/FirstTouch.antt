@@ -4,7 +4,7 @@ use mathlib.Core.List.{List, [], ◌∷◌, Memᴰ}
 use Rattle.plane.specs.declared.Vec2.{Vec2}
 use Rattle.path.specs.Laying.{PathRuns}
 use Rattle.walk.specs.declared.Walk.{Walk}
-use Rattle.walk.specs.Drawn.{view, station_at, made, refused, refused_at, outcome_of}
+use Rattle.walk.specs.Drawn.{view, station_at, made, refused, refused_at}
 use Rattle.walk.specs.Tests.{reaches_lent}
 use Rattle.walk.specs.Rig.{zero_vector}
 use Rattle.marks.specs.Count.{point_count}
@@ -16,8 +16,8 @@ use Rattle.claim.specs.WholeRun.{Handed, UntilRefused, last_answer}
 use Rattle.touching.specs.Touch.{Meeting}
 use Rattle.kerb_line.specs.Kerb.{KerbRuns, vertices, kerb_lent, kerb_sound}
 use Rattle.kerb_line.specs.Contact.{Segment, segments}
-use Rattle.kerb_report.specs.declared.KerbReport.{KerbReport}
-use Rattle.kerb_report.specs.declared.KerbReport.TheVariants as R
+use Rattle.kerb_report.specs.Answers.{KerbReport}
+use Rattle.kerb_report.specs.Answers as R
 use Rattle.kerb_report.specs.Ranges.{ReportEnsures}
 
 -- what a report is asked: a record, the stations of a path, and the vertices of a kerb
@@ -56,7 +56,7 @@ record_after (suc i) w (t ∷ ts) = record_after i t.result.walk ts
 -- call i, counted from 0, is there and made
 unfoldable pub MadeCall : ℕ → List Turn → Type 0
 MadeCall i [] = ⊥
-MadeCall zero (t ∷ ts) = outcome_of t.result.answer ≡ made
+MadeCall zero (t ∷ ts) = t.result.answer ≡ made
 MadeCall (suc i) (t ∷ ts) = MadeCall i ts
 
 -- where point p of a walk lies
@@ -104,7 +104,7 @@ pub record ClearToStop (q : Question) (ts : List Turn) (m u k : ℕ) : Type 0 wh
 
 -- a report that is refused: so is every such call from that record, by the same number; or it is the kerb's own 21 or 26
 pub data RefusedFor (q : Question) (m : ℕ) : Type 0 where
-  as_step : ((t : Turn) → StepEnsures q.walk t.call t.before t.result t.after → CallOver q.asked q.path t → outcome_of t.result.answer ≡ refused m) → RefusedFor q m
+  as_step : ((t : Turn) → StepEnsures q.walk t.call t.before t.result t.after → CallOver q.asked q.path t → t.result.answer ≡ refused m) → RefusedFor q m
   kerb_short : m ≡ 21 → kerb_lent q.count q.kerb ≡ false → RefusedFor q m
   kerb_unsound : m ≡ 26 → kerb_sound q.count q.kerb ≡ false → RefusedFor q m
 
@@ -116,8 +116,8 @@ pub record CallsThere (q : Question) (runs : Reaches) : Type 0 where
 
 -- the claim, by what the report answers; and there are such calls for any record and any path
 pub record FirstTouch : Type 0 where
-  pub touch : (q : Question) (ts : List Turn) → CallsMade q ts → (k p : ℕ) → ReportAnswered q (R.Touch k p) → FirstAt q ts k p
-  pub nothing : (q : Question) (ts : List Turn) → CallsMade q ts → ReportAnswered q R.Nothing → ClearToEnd q ts
-  pub stopped : (q : Question) (ts : List Turn) → CallsMade q ts → (m u k : ℕ) → ReportAnswered q (R.Stopped m u k) → ClearToStop q ts m u k
-  pub refused : (q : Question) (m : ℕ) → ReportAnswered q (R.Refused m) → RefusedFor q m
+  pub touch : (q : Question) (ts : List Turn) → CallsMade q ts → (k p : ℕ) → ReportAnswered q (R.touch k p) → FirstAt q ts k p
+  pub nothing : (q : Question) (ts : List Turn) → CallsMade q ts → ReportAnswered q R.nothing → ClearToEnd q ts
+  pub stopped : (q : Question) (ts : List Turn) → CallsMade q ts → (m u k : ℕ) → ReportAnswered q (R.stopped m u k) → ClearToStop q ts m u k
+  pub refused : (q : Question) (m : ℕ) → ReportAnswered q (R.refused m) → RefusedFor q m
   pub calls : (q : Question) (runs : Reaches) → reaches_lent q.asked (lengths_of runs) ≡ true → CallsThere q runs

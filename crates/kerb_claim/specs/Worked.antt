@@ -7,8 +7,8 @@ use Rattle.path.specs.Laying.{PathRuns, path_runs}
 use Rattle.walk.specs.Drawn.{Drawn}
 use Rattle.walk.specs.Rig.{zero_vector}
 use Rattle.kerb_line.specs.Kerb.{kerb_runs}
-use Rattle.kerb_report.specs.declared.KerbReport.{KerbReport}
-use Rattle.kerb_report.specs.declared.KerbReport.TheVariants as R
+use Rattle.kerb_report.specs.Answers.{KerbReport}
+use Rattle.kerb_report.specs.Answers as R
 use Rattle.kerb_report.specs.Report.{report_of}
 
 abbrev pub vehicle : Vehicle
@@ -36,22 +36,22 @@ row k y n xs ys = report_of (at k) 3 (path_to y) n (kerb_runs xs ys)
 -- the claim
 pub record WorkedReports : Type 0 where
   -- a line that the right front corner crosses in step 2, of which it is point 1
-  pub crossed : row 0 10000 2 (pos 500 ∷ pos 1500 ∷ []) (pos 7000 ∷ pos 7000 ∷ []) ≡ R.Touch 2 1
+  pub crossed : row 0 10000 2 (pos 500 ∷ pos 1500 ∷ []) (pos 7000 ∷ pos 7000 ∷ []) ≡ R.touch 2 1
   -- a single vertex where it comes to rest, at the end of step 1
-  pub ended : row 0 10000 1 (pos 1000 ∷ []) (pos 5000 ∷ []) ≡ R.Touch 1 1
+  pub ended : row 0 10000 1 (pos 1000 ∷ []) (pos 5000 ∷ []) ≡ R.touch 1 1
   -- a tick past where it comes to rest at last
-  pub missed : row 0 10000 1 (pos 1000 ∷ []) (pos 10001 ∷ []) ≡ R.Nothing
+  pub missed : row 0 10000 1 (pos 1000 ∷ []) (pos 10001 ∷ []) ≡ R.nothing
   -- none, as at the last station
-  pub last : row 2 10000 1 (pos 1000 ∷ []) (pos 10000 ∷ []) ≡ R.Nothing
+  pub last : row 2 10000 1 (pos 1000 ∷ []) (pos 10000 ∷ []) ≡ R.nothing
   -- a second step of more than the wheelbase is refused, and not looked at
-  pub stopped : row 0 10001 1 (pos 1000 ∷ []) (pos 7000 ∷ []) ≡ R.Stopped 22 1 2
+  pub stopped : row 0 10001 1 (pos 1000 ∷ []) (pos 7000 ∷ []) ≡ R.stopped 22 1 2
   -- but a touch before it is
-  pub first : row 0 10001 1 (pos 1000 ∷ []) (pos 5000 ∷ []) ≡ R.Touch 1 1
+  pub first : row 0 10001 1 (pos 1000 ∷ []) (pos 5000 ∷ []) ≡ R.touch 1 1
   -- no vertex, one too far off, and a station that the path does not have
-  pub none : row 0 10000 0 (pos 1000 ∷ []) (pos 5000 ∷ []) ≡ R.Refused 21
-  pub far : row 0 10000 1 (pos 150000001 ∷ []) (pos 5000 ∷ []) ≡ R.Refused 26
-  pub beyond : row 3 10000 1 (pos 1000 ∷ []) (pos 5000 ∷ []) ≡ R.Refused 27
+  pub none : row 0 10000 0 (pos 1000 ∷ []) (pos 5000 ∷ []) ≡ R.refused 21
+  pub far : row 0 10000 1 (pos 150000001 ∷ []) (pos 5000 ∷ []) ≡ R.refused 26
+  pub beyond : row 3 10000 1 (pos 1000 ∷ []) (pos 5000 ∷ []) ≡ R.refused 27
   -- 21 before 26, and 26, of the path and of the kerb, before 27
-  pub none_before_path : row 0 150000001 0 (pos 1000 ∷ []) (pos 5000 ∷ []) ≡ R.Refused 21
-  pub path_before_beyond : row 3 150000001 1 (pos 1000 ∷ []) (pos 5000 ∷ []) ≡ R.Refused 26
-  pub far_before_beyond : row 3 10000 1 (pos 150000001 ∷ []) (pos 5000 ∷ []) ≡ R.Refused 26
+  pub none_before_path : row 0 150000001 0 (pos 1000 ∷ []) (pos 5000 ∷ []) ≡ R.refused 21
+  pub path_before_beyond : row 3 150000001 1 (pos 1000 ∷ []) (pos 5000 ∷ []) ≡ R.refused 26
+  pub far_before_beyond : row 3 10000 1 (pos 150000001 ∷ []) (pos 5000 ∷ []) ≡ R.refused 26

@@ -26,9 +26,8 @@ use Rattle.path.specs.Laying.{PathRuns, path_runs}
 use Rattle.path.proofs.JobLaws.{laid_answered}
 use Rattle.unit.specs.Turn.{placed_by, turned_by, too_far}
 use Rattle.walk.specs.declared.Walk.{Walk}
-use Rattle.walk.specs.declared.StepAnswer.{StepAnswer}
-use Rattle.walk.specs.declared.StepAnswer.TheVariants as S
-use Rattle.walk.specs.Drawn.{view}
+use Rattle.walk.specs.Drawn.{view, Outcome}
+use Rattle.walk.specs.Drawn as D
 use Rattle.walk.specs.Tests.{lent, station_sound, path_sound, vehicle_sound, vector_sound, vectors_sound, record_sound, at_last}
 use Rattle.walk.specs.Units.{turn_units}
 use Rattle.walk.specs.Rig.{zero_vector, start_vectors, draw_step}
@@ -40,9 +39,9 @@ use Rattle.points.specs.Points.{point_at, rig_points}
 use Rattle.reaches.specs.Cells.{Reaches, reach_runs, at_stations}
 use Rattle.reaches.specs.Crossing.{reach_of, crosses, crossed_by, crossed_from}
 use Rattle.reaches.specs.declared.Place.{Place}
-use Rattle.reaches.specs.declared.WidestAnswer.TheVariants as W
+use Rattle.refusal.specs.Numbers as W
 use Rattle.reaches.specs.Widest.{widest_among, widest_lent, widest_answer}
-use Rattle.stations.specs.declared.PlaceAnswer.TheVariants as P
+use Rattle.stations.specs.Placing as P
 use Rattle.stations.specs.Placing.{call_of, place_refusal, PlaceEnsures}
 use Rattle.stations.specs.Stepping.{StepEnsures}
 use Rattle.stations.proofs.PlaceLaws.{place_done}
@@ -141,22 +140,22 @@ abbrev crossed_runs : Reaches
 crossed_runs = reach_runs (pos 2000000000 ∷ negsuc 11999 ∷ []) (negsuc 1999999999 ∷ pos 12000 ∷ []) (0 ∷ 12 ∷ [])
 
 -- each call by computing, whatever the unused unit and the body are
-abbrev StepsSo : ℕ → ℤ → Reaches → StepAnswer → ℕ → Reaches → Type 0
+abbrev StepsSo : ℕ → ℤ → Reaches → Outcome → ℕ → Reaches → Type 0
 StepsSo k y before answer m after = (u : VehicleUnit) → StepEnsures (at k u) (call_of 2 (path_to y) before) before (record { answer = answer; walk = at m u }) after
 
-placed_so : (u : VehicleUnit) (w : Walk) → PlaceEnsures (vehicle_with u) w (call_of 2 (path_to (pos 5000)) lent_runs) lent_runs (record { answer = P.Placed; walk = at 0 u }) cleared_runs
+placed_so : (u : VehicleUnit) (w : Walk) → PlaceEnsures (vehicle_with u) w (call_of 2 (path_to (pos 5000)) lent_runs) lent_runs (record { answer = P.placed; walk = at 0 u }) cleared_runs
 unfolding empty_units nearest_size nearest_z has_length fault_of units_fault vehicle_fault placed_by lent station_sound path_sound vehicle_sound start_vectors place_refusal at_stations
 placed_so u w = place_done (vehicle_with u) w (call_of 2 (path_to (pos 5000)) lent_runs) lent_runs (at 0 u) cleared_runs refl refl refl
 
-made_so : StepsSo 0 (pos 5000) cleared_runs S.Made 1 crossed_runs
+made_so : StepsSo 0 (pos 5000) cleared_runs D.made 1 crossed_runs
 unfolding empty_units nearest_size nearest_z has_length fault_of units_fault vehicle_fault turned_by too_far lent station_sound path_sound vehicle_sound vector_sound vectors_sound record_sound at_last turn_units draw_step unit_places body_of front_corner rear_corner corner_of point_count all_set point_at rig_points at_stations reach_of crosses crossed_by crossed_from
 made_so u = record { stepped = refl; unchanged = λ n. absurd (n refl); runs = refl }
 
-last_so : StepsSo 1 (pos 5000) crossed_runs (S.Refused 25) 1 crossed_runs
+last_so : StepsSo 1 (pos 5000) crossed_runs (D.refused 25) 1 crossed_runs
 unfolding empty_units has_length fault_of units_fault vehicle_fault lent station_sound path_sound vehicle_sound vector_sound vectors_sound record_sound at_last draw_step
 last_so u = record { stepped = refl; unchanged = λ n. refl; runs = refl }
 
-far_so : StepsSo 0 (pos 50001) lent_runs (S.RefusedUnit 22 1) 0 lent_runs
+far_so : StepsSo 0 (pos 50001) lent_runs (D.refused_at 22 1) 0 lent_runs
 unfolding empty_units has_length fault_of units_fault vehicle_fault too_far lent station_sound path_sound vehicle_sound vector_sound vectors_sound record_sound at_last turn_units draw_step
 far_so u = record { stepped = refl; unchanged = λ n. refl; runs = refl }
 
@@ -164,12 +163,12 @@ far_so u = record { stepped = refl; unchanged = λ n. refl; runs = refl }
 abbrev second_place : Place
 second_place = record { station = 1; width = pos 0; left = pos 0; right = pos 0 }
 
-widest_so : (u : VehicleUnit) → widest_answer (view (at 0 u)) 2 lent_runs ≡ W.At second_place
+widest_so : (u : VehicleUnit) → widest_answer (view (at 0 u)) 2 lent_runs ≡ W.answered second_place
 unfolding empty_units has_length fault_of units_fault vehicle_fault vehicle_sound vector_sound vectors_sound record_sound point_count all_set widest_among widest_lent widest_answer
 widest_so u = refl
 
 -- such a call of both records
-abbrev both : (k : ℕ) (y : ℤ) (before : Reaches) (answer : StepAnswer) (m : ℕ) (after : Reaches) → StepsSo k y before answer m after → StepsOfBoth (at k empty_unit) (at k wrong_unit) answer
+abbrev both : (k : ℕ) (y : ℤ) (before : Reaches) (answer : Outcome) (m : ℕ) (after : Reaches) → StepsSo k y before answer m after → StepsOfBoth (at k empty_unit) (at k wrong_unit) answer
 both k y before answer m after h = record {
   same = record { vehicle = jobs_same.vehicle; station = refl; vectors = refl };
   differ = λ p. units_differ_lem (ap (λ (w : Walk). w.vehicle.units) p);
@@ -197,7 +196,7 @@ some_steps_lem = record {
   widest = second_place;
   one_asked = widest_so empty_unit;
   other_asked = widest_so wrong_unit;
-  made = both 0 (pos 5000) cleared_runs S.Made 1 crossed_runs made_so;
-  at_last = both 1 (pos 5000) crossed_runs (S.Refused 25) 1 crossed_runs last_so;
-  too_far = both 0 (pos 50001) lent_runs (S.RefusedUnit 22 1) 0 lent_runs far_so;
+  made = both 0 (pos 5000) cleared_runs D.made 1 crossed_runs made_so;
+  at_last = both 1 (pos 5000) crossed_runs (D.refused 25) 1 crossed_runs last_so;
+  too_far = both 0 (pos 50001) lent_runs (D.refused_at 22 1) 0 lent_runs far_so;
 }

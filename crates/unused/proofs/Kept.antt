@@ -14,23 +14,21 @@ use Rattle.job.specs.Empty.{empty_unit, cleared_unit}
 use Rattle.refusal.proofs.NumberLaws.{same_answer}
 use Rattle.path.specs.Stations.{stations}
 use Rattle.path.specs.Laying.{PathRuns, lay_answer}
-use Rattle.walk.specs.declared.StepAnswer.{StepAnswer}
-use Rattle.walk.specs.declared.StepAnswer.TheVariants as S
 use Rattle.walk.specs.declared.Walk.{Walk}
-use Rattle.walk.specs.declared.Advanced.{Advanced}
-use Rattle.walk.specs.Drawn.{Drawn, view, Call, Outcome, made, refused, refused_at, outcome_of}
+use Rattle.walk.specs.Moving.{Advanced}
+use Rattle.walk.specs.Drawn.{Drawn, view, Call, Outcome, made, refused, refused_at}
 use Rattle.walk.specs.Rig.{Stepped, draw_step}
 use Rattle.marks.proofs.CountLaws.{same_count}
 use Rattle.reaches.specs.Cells.{Reaches}
 use Rattle.reaches.specs.Widest.{widest_answer}
-use Rattle.stations.specs.declared.Placing.{Placing}
-use Rattle.stations.specs.Placing.{place_refusal, unless_refused, start_heading, PlaceEnsures}
+use Rattle.stations.specs.Placing.{Placing, place_refusal, unless_refused, start_heading, PlaceEnsures}
 use Rattle.stations.specs.Stepping.{StepEnsures}
 use Rattle.run.specs.Walking.{Course}
-use Rattle.run.specs.declared.Ran.{Ran}
+use Rattle.run.specs.Ran.{Ran}
 use Rattle.run.specs.Run.{ran_by, ran_over, run_refusal, job_path, job_course, RunEnsures}
-use Rattle.ranking.specs.declared.Listed.{Listed}
-use Rattle.bogie.specs.Settings.{Rail, setting_at, last_setting, unit_set, vehicle_set, job_set}
+use Rattle.ranking.specs.Ranking.{Listed}
+use Rattle.bogie.specs.declared.Rail.{Rail}
+use Rattle.bogie.specs.Settings.{setting_at, last_setting, unit_set, vehicle_set, job_set}
 use Rattle.bogie.specs.Fitting.{fitting}
 use Rattle.bogie.specs.List.{list_refusal, ran_at, ListEnsures}
 use Rattle.unused.specs.Same.{units_read, SameVehicle, SameJob, SameRig}
@@ -58,27 +56,15 @@ placing v u e w x a c before r q after other h g =
       runs = rw (h.runs, g.runs, n);
     }
 
--- an answer is told by its number and unit
-outcome_same : (a b : StepAnswer) → outcome_of a ≡ outcome_of b → a ≡ b
-outcome_same S.Made S.Made e = refl
-outcome_same S.Made (S.Refused n) e = cc
-outcome_same S.Made (S.RefusedUnit n u) e = cc
-outcome_same (S.Refused m) S.Made e = cc
-outcome_same (S.Refused m) (S.Refused n) e = cc
-outcome_same (S.Refused m) (S.RefusedUnit n u) e = cc
-outcome_same (S.RefusedUnit m i) S.Made e = cc
-outcome_same (S.RefusedUnit m i) (S.Refused n) e = cc
-outcome_same (S.RefusedUnit m i) (S.RefusedUnit n u) e = cc
-
 stepping : (w x : Walk) → SameRig (view w) (view x) → (c : Call) (before : Reaches) (r q : Advanced) (after other : Reaches) → StepEnsures w c before r after → StepEnsures x c before q other → SameCall r.answer q.answer r.walk q.walk after other
 stepping w x e c before r q after other h g =
     let d = stepped (view w) (view x) e c in
-    let a : outcome_of r.answer ≡ (draw_step (view w) c).answer = ap (λ (y : Stepped). y.answer) h.stepped in
-    let b : outcome_of q.answer ≡ (draw_step (view x) c).answer = ap (λ (y : Stepped). y.answer) g.stepped in
+    let a : r.answer ≡ (draw_step (view w) c).answer = ap (λ (y : Stepped). y.answer) h.stepped in
+    let b : q.answer ≡ (draw_step (view x) c).answer = ap (λ (y : Stepped). y.answer) g.stepped in
     let s : view r.walk ≡ (draw_step (view w) c).state = ap (λ (y : Stepped). y.state) h.stepped in
     let t : view q.walk ≡ (draw_step (view x) c).state = ap (λ (y : Stepped). y.state) g.stepped in
     record {
-      answer = outcome_same r.answer q.answer (a ∙ d.answer ∙ sym b);
+      answer = a ∙ d.answer ∙ sym b;
       walk = rw (s, t) d.state;
       runs = rw (h.runs, g.runs, d.answer, points_same (view w) (view x) e c, points_same (draw_step (view w) c).state (draw_step (view x) c).state d.state c);
     }

@@ -5,24 +5,24 @@ use Rattle.job.specs.declared.Vehicle.{Vehicle}
 use Rattle.job.specs.declared.Job.{Job}
 use Rattle.job.specs.Empty.{cleared}
 use Rattle.job.specs.Faults.{vehicle_fault, judge}
+use Rattle.refusal.specs.Numbers.{Answer}
 use Rattle.refusal.specs.declared.Fault.{Fault}
 use Rattle.job_writer.specs.Write.{write_job}
 use Rattle.job_writer.specs.Answers.{WriteEnsures}
 use Rattle.path.specs.Stations.{stations}
 use Rattle.path.specs.Laying.{PathRuns, LayEnsures}
 use Rattle.walk.specs.declared.Walk.{Walk}
-use Rattle.walk.specs.declared.Advanced.{Advanced}
+use Rattle.walk.specs.Moving.{Advanced}
 use Rattle.walk.specs.Drawn.{view, Call}
-use Rattle.reaches.specs.declared.WidestAnswer.{WidestAnswer}
+use Rattle.reaches.specs.declared.Place.{Place}
 use Rattle.reaches.specs.Cells.{Reaches}
 use Rattle.reaches.specs.Widest.{widest_answer}
-use Rattle.stations.specs.declared.Placing.{Placing}
-use Rattle.stations.specs.Placing.{PlaceEnsures}
+use Rattle.stations.specs.Placing.{Placing, PlaceEnsures}
 use Rattle.stations.specs.Stepping.{StepEnsures}
-use Rattle.run.specs.declared.Ran.{Ran}
+use Rattle.run.specs.Ran.{Ran}
 use Rattle.run.specs.Run.{RunEnsures}
-use Rattle.ranking.specs.declared.Listed.{Listed}
-use Rattle.bogie.specs.Settings.{Rail}
+use Rattle.ranking.specs.Ranking.{Listed}
+use Rattle.bogie.specs.declared.Rail.{Rail}
 use Rattle.bogie.specs.List.{ListEnsures}
 use Rattle.unused.specs.Same.{SameVehicle, SameJob, SameRig}
 use Rattle.unused.specs.Witnesses.{SomeJobs, SomeSteps}
@@ -61,7 +61,7 @@ pub record Unused : Type 0 where
       → (c : Call) (before : Reaches) (r q : Advanced) (after other : Reaches)
       → StepEnsures w c before r after → StepEnsures x c before q other → SameCall r.answer q.answer r.walk q.walk after other
   -- asked for the widest place among the same stations, in the same three runs
-  pub widest : (w x : Walk) → SameRig (view w) (view x) → (asked : ℕ) (runs : Reaches) (a b : WidestAnswer)
+  pub widest : (w x : Walk) → SameRig (view w) (view x) → (asked : ℕ) (runs : Reaches) (a b : Answer Place)
       → a ≡ widest_answer (view w) asked runs → b ≡ widest_answer (view x) asked runs → a ≡ b
   -- run on the same seven runs
   pub ran : (j k : Job) → SameJob j k → (p : PathRuns) (r : Reaches) (a b : Ran) (p' q' : PathRuns) (r' s' : Reaches)

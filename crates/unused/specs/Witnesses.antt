@@ -7,17 +7,16 @@ use Rattle.job_reader.specs.Worked.{worked_record}
 use Rattle.job_writer.specs.Answers.{WriteEnsures}
 use Rattle.path.specs.Laying.{PathRuns, LayEnsures}
 use Rattle.walk.specs.declared.Walk.{Walk}
-use Rattle.walk.specs.declared.StepAnswer.{StepAnswer}
-use Rattle.walk.specs.declared.StepAnswer.TheVariants as S
-use Rattle.walk.specs.Drawn.{view}
+use Rattle.walk.specs.Drawn.{view, Outcome}
+use Rattle.walk.specs.Drawn as D
 use Rattle.reaches.specs.declared.Place.{Place}
-use Rattle.reaches.specs.declared.WidestAnswer.TheVariants as W
+use Rattle.refusal.specs.Numbers as W
 use Rattle.reaches.specs.Cells.{Reaches}
 use Rattle.reaches.specs.Widest.{widest_answer}
-use Rattle.stations.specs.declared.PlaceAnswer.TheVariants as P
+use Rattle.stations.specs.Placing as P
 use Rattle.stations.specs.Placing.{call_of, PlaceEnsures}
 use Rattle.stations.specs.Stepping.{StepEnsures}
-use Rattle.run.specs.declared.Ran.TheVariants as R
+use Rattle.run.specs.Ran as R
 use Rattle.run.specs.Run.{RunEnsures}
 use Rattle.run.specs.Worked.{worked_finish}
 use Rattle.unused.specs.Same.{SameJob, SameRig}
@@ -29,7 +28,7 @@ pub record RunsAsWorked (j : Job) (path : PathRuns) (reaches : Reaches) : Type 0
   pub path_left : PathRuns
   pub laid : LayEnsures j path (Ok 14) path_left
   pub reaches_left : Reaches
-  pub ran : RunEnsures j path reaches (R.Finished worked_finish) path_left reaches_left
+  pub ran : RunEnsures j path reaches (R.finished worked_finish) path_left reaches_left
 
 -- two jobs that agree but for unused entries, and differ in an unused unit, in a short job's body and in an unused element; both run so, lent the same runs
 pub record SomeJobs : Type 0 where
@@ -45,7 +44,7 @@ pub record SomeJobs : Type 0 where
   pub other_runs : RunsAsWorked other path reaches
 
 -- two records that agree but for unused entries, and differ; a step call at each, over the same path and runs, has this answer and leaves two records
-pub record StepsOfBoth (w x : Walk) (answer : StepAnswer) : Type 0 where
+pub record StepsOfBoth (w x : Walk) (answer : Outcome) : Type 0 where
   pub same : SameRig (view w) (view x)
   pub differ : w ≡ x → ⊥
   pub asked : ℕ
@@ -66,11 +65,11 @@ pub record SomeSteps (v u : Vehicle) : Type 0 where
   pub one : Walk
   pub other : Walk
   pub after : Reaches
-  pub one_placed : (w : Walk) → PlaceEnsures v w (call_of asked path before) before (record { answer = P.Placed; walk = one }) after
-  pub other_placed : (w : Walk) → PlaceEnsures u w (call_of asked path before) before (record { answer = P.Placed; walk = other }) after
+  pub one_placed : (w : Walk) → PlaceEnsures v w (call_of asked path before) before (record { answer = P.placed; walk = one }) after
+  pub other_placed : (w : Walk) → PlaceEnsures u w (call_of asked path before) before (record { answer = P.placed; walk = other }) after
   pub widest : Place
-  pub one_asked : widest_answer (view one) asked before ≡ W.At widest
-  pub other_asked : widest_answer (view other) asked before ≡ W.At widest
-  pub made : StepsOfBoth one other S.Made
-  pub at_last : StepsOfBoth made.one made.other (S.Refused 25)
-  pub too_far : StepsOfBoth one other (S.RefusedUnit 22 1)
+  pub one_asked : widest_answer (view one) asked before ≡ W.answered widest
+  pub other_asked : widest_answer (view other) asked before ≡ W.answered widest
+  pub made : StepsOfBoth one other D.made
+  pub at_last : StepsOfBoth made.one made.other (D.refused 25)
+  pub too_far : StepsOfBoth one other (D.refused_at 22 1)
