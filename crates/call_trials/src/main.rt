@@ -7,8 +7,9 @@
 mod others;
 
 use trial_tools::counts::Count;
-use trial_tools::reading::{Line, first_number};
-use trial_tools::tables;
+use trial_tools::reading::Line;
+use trial_tools::trials::{Call, Counts};
+use trial_tools::{tables, trials};
 
 #[derive(Clone, Copy)]
 enum Kind {
@@ -22,79 +23,42 @@ enum Kind {
     List,
 }
 
-// The calls of each kind, and the lines of no known kind.
-#[derive(Clone, Copy, Default)]
-struct Counts {
-    place: Count,
-    step: Count,
-    widest: Count,
-    write: Count,
-    lay: Count,
-    path_turn: Count,
-    unit_turn: Count,
-    list: Count,
-    other: Count,
-}
+// The kinds in the order of their numbers, and what they are called.
+const KINDS: [Kind; 8] = [
+    Kind::Place,
+    Kind::Step,
+    Kind::Widest,
+    Kind::Write,
+    Kind::Lay,
+    Kind::PathTurn,
+    Kind::UnitTurn,
+    Kind::List,
+];
 
-impl Counts {
-    fn enter(&mut self, kind: Option<Kind>, line: u64, answer: Option<()>) {
-        match kind {
-            Some(Kind::Place) => self.place.enter(line, answer),
-            Some(Kind::Step) => self.step.enter(line, answer),
-            Some(Kind::Widest) => self.widest.enter(line, answer),
-            Some(Kind::Write) => self.write.enter(line, answer),
-            Some(Kind::Lay) => self.lay.enter(line, answer),
-            Some(Kind::PathTurn) => self.path_turn.enter(line, answer),
-            Some(Kind::UnitTurn) => self.unit_turn.enter(line, answer),
-            Some(Kind::List) => self.list.enter(line, answer),
-            None => self.other.enter(line, answer),
+const NAMES: [&str; 8] = [
+    "place",
+    "step",
+    "widest",
+    "write",
+    "lay",
+    "path turn",
+    "unit turn",
+    "list",
+];
+
+impl Call for Kind {
+    fn make(self, line: &mut Line<'_>) -> Option<()> {
+        match self {
+            Kind::Place => trial_calls::walks::place(line),
+            Kind::Step => trial_calls::walks::step(line),
+            Kind::Widest => others::widest(line),
+            Kind::Write => others::write(line),
+            Kind::Lay => others::lay(line),
+            Kind::PathTurn => others::path_turn(line),
+            Kind::UnitTurn => others::unit_turn(line),
+            Kind::List => trial_lists::list(line),
         }
     }
-}
-
-// A line counts among the calls of the kind that it begins with, even where it goes wrong right behind that.
-fn kind_of(line: &[u8]) -> Option<Kind> {
-    match first_number(line)? {
-        1 => Some(Kind::Place),
-        2 => Some(Kind::Step),
-        3 => Some(Kind::Widest),
-        4 => Some(Kind::Write),
-        5 => Some(Kind::Lay),
-        6 => Some(Kind::PathTurn),
-        7 => Some(Kind::UnitTurn),
-        8 => Some(Kind::List),
-        _ => None,
-    }
-}
-
-fn make_call(kind: Kind, line: &mut Line<'_>) -> Option<()> {
-    match kind {
-        Kind::Place => trial_calls::walks::place(line),
-        Kind::Step => trial_calls::walks::step(line),
-        Kind::Widest => others::widest(line),
-        Kind::Write => others::write(line),
-        Kind::Lay => others::lay(line),
-        Kind::PathTurn => others::path_turn(line),
-        Kind::UnitTurn => others::unit_turn(line),
-        Kind::List => trial_lists::list(line),
-    }
-}
-
-// Something, where the call of a line answers as it should.
-fn try_line(kind: Option<Kind>, line: &[u8]) -> Option<()> {
-    let mut line = Line::of(line)?;
-    let _kind: usize = line.number()?;
-    make_call(kind?, &mut line)?;
-    line.end()
-}
-
-fn try_lines(text: &[u8]) -> Counts {
-    let mut counts = Counts::default();
-    for (number, line) in (1u64..).zip(text.split_inclusive(|b| *b == b'\n')) {
-        let kind = kind_of(line);
-        counts.enter(kind, number, try_line(kind, line));
-    }
-    counts
 }
 
 // What cannot be written is lost: a trial has nowhere else to tell it.
@@ -113,21 +77,17 @@ fn report_others(rt: &impl Print, count: Count) {
     }
 }
 
-fn report_all(rt: &impl Print, counts: Counts) {
-    report(rt, "place", counts.place);
-    report(rt, "step", counts.step);
-    report(rt, "widest", counts.widest);
-    report(rt, "write", counts.write);
-    report(rt, "lay", counts.lay);
-    report(rt, "path turn", counts.path_turn);
-    report(rt, "unit turn", counts.unit_turn);
-    report(rt, "list", counts.list);
+fn report_all(rt: &impl Print, counts: Counts<8>) {
+    for (name, count) in NAMES.iter().zip(&counts.kinds) {
+        report(rt, name, *count);
+    }
     report_others(rt, counts.other);
 }
 
+// Kept: the new form is no plainer: the two tables' mains are alike, but each names its own room, table, kinds and report.
 fn main(rt: HostRuntime) {
     let mut room = tables::room::<1500000>();
     if let Some(text) = tables::whole_table(&rt, "calls.txt", &mut room) {
-        report_all(&rt, try_lines(text));
+        report_all(&rt, trials::try_lines(text, &KINDS));
     }
 }

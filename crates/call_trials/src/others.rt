@@ -1,8 +1,8 @@
 // Calls of the other entries: the widest place, writing and laying a job, and the two turns.
 use plane::Vec2;
-use reaches::{Place, WidestAnswer};
+use reaches::Place;
 use refusal::Fault;
-use trial_calls::runs::{PathArrays, ROOM, ReachArrays, ReachRuns};
+use trial_calls::runs::{PathArrays, ROOM, ReachArrays};
 use trial_tools::reading::{Line, same};
 
 // Stand beside a refusal.
@@ -15,6 +15,7 @@ const NO_PLACE: Place = Place {
 
 const NOWHERE: Vec2 = Vec2 { x: 0, y: 0 };
 
+// Kept: the new form is no plainer: structs are read alike, each by its own fields' names.
 fn read_place(line: &mut Line<'_>) -> Option<Place> {
     Some(Place {
         station: line.number()?,
@@ -28,11 +29,11 @@ pub fn widest(line: &mut Line<'_>) -> Option<()> {
     let mut arrays = ReachArrays::empty();
     let walk = line.walk()?;
     let asked = line.number()?;
-    let ReachRuns { left, right, marks } = arrays.read(line)?;
+    let room = arrays.read(line)?;
     line.equals_sign()?;
-    let (number, place) = match reaches::widest(walk, asked, left, right, marks) {
-        WidestAnswer::At(place) => (0, place),
-        WidestAnswer::Refused(number) => (number, NO_PLACE),
+    let (number, place) = match reaches::widest(walk, asked, room.reached()) {
+        Ok(place) => (0, place),
+        Err(fault) => (fault.number(), NO_PLACE),
     };
     same(line.number()?, number)?;
     same(read_place(line)?, place)

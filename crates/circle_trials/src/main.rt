@@ -8,6 +8,7 @@ mod measure;
 use job::{Job, Vehicle};
 use path::{Path, PathRoom};
 use plane::Vec2;
+use reaches::ReachRoom;
 use trial_tools::reading::Line;
 use trial_tools::{places, rigs, tables};
 use walk::Walk;
@@ -58,7 +59,7 @@ fn measured(
     }
     match course {
         Course::Circle(centre, radius) => {
-            let Some(p) = places::points_at(w, asked, path.xs, path.ys, path.gxs, path.gys) else {
+            let Some(p) = places::points_at(w, asked, path) else {
                 return Some(measure::BEYOND);
             };
             Some(measure::off_circle(p[4], p[5], centre, radius))
@@ -74,65 +75,48 @@ fn follow(
     v: Vehicle,
     asked: usize,
     path: Path<'_>,
-    left: &mut [i32],
-    right: &mut [i32],
-    marks: &mut [marks::Mark],
+    room: &mut ReachRoom<'_>,
 ) -> Found {
-    let before = rigs::no_walk(v);
-    let Path { xs, ys, gxs, gys } = path;
-    let placing = stations::place(v, before, asked, xs, ys, gxs, gys, left, right, marks);
-    let mut w = placing.walk;
+    let mut w = rigs::placed(v, asked, path, room);
     let mut found = Found {
         stations: 0,
         largest: Some(0),
     };
     for made in 0..asked {
         if t.from <= made {
-            let off = measured(line, t.course, made, w, asked, path);
-            found.enter(off);
+            found.enter(measured(line, t.course, made, w, asked, path));
         }
-        let advanced = stations::step(w, asked, xs, ys, gxs, gys, left, right, marks);
-        w = advanced.walk;
+        // A rig that is held up is measured as beyond all bounds.
+        let _refused = stations::step(&mut w, asked, path, room);
     }
     found
 }
 
 // The job's path is laid and followed; nothing is measured where it is refused.
 fn try_job(line: &mut Line<'_>, t: Trial, j: Job) -> Found {
-    let mut xs = [0i32; 600];
-    let mut ys = [0i32; 600];
-    let mut gxs = [0i32; 600];
-    let mut gys = [0i32; 600];
-    let mut left = [0i32; 600];
-    let mut right = [0i32; 600];
-    let mut marks = [0u32; 600];
-    let mut room = PathRoom {
-        xs: &mut xs,
-        ys: &mut ys,
-        gxs: &mut gxs,
-        gys: &mut gys,
+    let mut path_room = PathRoom {
+        xs: &mut [0i32; 600],
+        ys: &mut [0i32; 600],
+        gxs: &mut [0i32; 600],
+        gys: &mut [0i32; 600],
     };
-    let Ok(asked) = path::lay(j, &mut room) else {
+    let mut room = ReachRoom {
+        left: &mut [0i32; 600],
+        right: &mut [0i32; 600],
+        marks: &mut [0u32; 600],
+    };
+    let Ok(asked) = path::lay(j, &mut path_room) else {
         return Found {
             stations: 0,
             largest: Some(measure::BEYOND),
         };
     };
-    follow(
-        line,
-        t,
-        j.vehicle,
-        asked,
-        room.laid(),
-        &mut left,
-        &mut right,
-        &mut marks,
-    )
+    follow(line, t, j.vehicle, asked, path_room.laid(), &mut room)
 }
 
 // A circle's centre and radius, with the axle up to 5 mm off; or how far off the vectors may be, which are read station by station.
-fn read_trial(line: &mut Line<'_>, kind: usize, from: usize) -> Option<Trial> {
-    if kind == 1 {
+fn read_trial(line: &mut Line<'_>, on_circle: bool, from: usize) -> Option<Trial> {
+    if on_circle {
         let course = Course::Circle(line.vector()?, line.number()?);
         return Some(Trial {
             course,
@@ -173,11 +157,11 @@ const UNREAD: Outcome = Outcome {
 
 fn try_line(line: &[u8]) -> Option<Outcome> {
     let mut line = Line::of(line)?;
-    let kind = line.number()?;
+    let on_circle = line.number::<usize>()? == 1;
     let job = line.job()?;
     let from = line.number()?;
     line.equals_sign()?;
-    let trial = read_trial(&mut line, kind, from)?;
+    let trial = read_trial(&mut line, on_circle, from)?;
     let found = try_job(&mut line, trial, job);
     Some(Outcome {
         units: job.vehicle.count,

@@ -42,6 +42,7 @@ fn decode<'r>(digits: &[u8], room: &'r mut [u8]) -> Option<&'r [u8]> {
 }
 
 // A byte of the table's text, as it is printed.
+// Kept: the new form is no plainer: this is a byte of a text, and no number for a kind.
 fn printed(b: u8) -> u8 {
     if b == b'/' { b'\n' } else { b }
 }

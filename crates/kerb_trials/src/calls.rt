@@ -1,9 +1,10 @@
 // The calls of a table's line, and what they answered held to the line.
+use kerb_line::Kerb;
 use kerb_reader::KerbRefusal;
-use kerb_report::KerbReport;
-use kerbed::Kerbed;
-use path::PathRoom;
+use kerb_report::Touch;
 use refusal::Fault;
+use run::{RunRefusal, Stop};
+use swept::SweepRefusal;
 use trial_calls::runs::{PathArrays, ROOM};
 use trial_tools::reading::{Line, same};
 
@@ -37,33 +38,37 @@ pub fn read(line: &mut Line<'_>) -> Option<()> {
 
 // The unit that cannot go on, whether a touch was found, the step and the point; 0 for what there is not.
 #[derive(Clone, Copy, Default, PartialEq, Eq)]
-struct Touch {
+struct Told {
     unit: usize,
     found: usize,
     step: usize,
     point: usize,
 }
 
-fn touch_at(step: usize, point: usize) -> Touch {
-    Touch {
-        unit: 0,
-        found: 1,
-        step,
-        point,
+fn told_touch(touch: Option<Touch>) -> Told {
+    match touch {
+        Some(Touch { step, point }) => Told {
+            unit: 0,
+            found: 1,
+            step,
+            point,
+        },
+        None => Told::default(),
     }
 }
 
-fn stop_at(unit: usize, step: usize) -> Touch {
-    Touch {
-        unit,
+fn told_stop(stop: Stop) -> Told {
+    Told {
+        unit: stop.unit,
         found: 0,
-        step,
+        step: stop.step,
         point: 0,
     }
 }
 
-fn read_touch(line: &mut Line<'_>) -> Option<Touch> {
-    Some(Touch {
+// Kept: the new form is no plainer: structs are read alike, each by its own fields' names.
+fn read_told(line: &mut Line<'_>) -> Option<Told> {
+    Some(Told {
         unit: line.number()?,
         found: line.number()?,
         step: line.number()?,
@@ -72,47 +77,48 @@ fn read_touch(line: &mut Line<'_>) -> Option<Touch> {
 }
 
 // A refusal's number or 0, and the touch.
-fn told_report(report: KerbReport) -> (u8, Touch) {
+fn told_report(report: Result<Option<Touch>, RunRefusal>) -> (u8, Told) {
     match report {
-        KerbReport::Nothing => (0, Touch::default()),
-        KerbReport::Touch(step, point) => (0, touch_at(step, point)),
-        KerbReport::Stopped(number, unit, step) => (number, stop_at(unit, step)),
-        KerbReport::Refused(number) => (number, Touch::default()),
+        Ok(touch) => (0, told_touch(touch)),
+        Err(RunRefusal::Stopped(stop)) => (stop.fault.number(), told_stop(stop)),
+        Err(RunRefusal::Refused(fault)) => (fault.number(), Told::default()),
     }
 }
 
 pub fn report(line: &mut Line<'_>) -> Option<()> {
     let mut path_arrays = PathArrays::empty();
-    let mut kerb_xs = [0i32; ROOM];
-    let mut kerb_ys = [0i32; ROOM];
+    let mut xs = [0i32; ROOM];
+    let mut ys = [0i32; ROOM];
     let walk = line.walk()?;
     let asked = line.number()?;
-    let PathRoom { xs, ys, gxs, gys } = path_arrays.read(line)?;
-    let vertices = line.number()?;
-    let kerb_xs = line.run(&mut kerb_xs)?;
-    let kerb_ys = line.run(&mut kerb_ys)?;
+    let path_room = path_arrays.read(line)?;
+    let kerb = Kerb {
+        count: line.number()?,
+        xs: line.run(&mut xs)?,
+        ys: line.run(&mut ys)?,
+    };
     line.equals_sign()?;
-    let report = kerb_report::report(walk, asked, xs, ys, gxs, gys, vertices, kerb_xs, kerb_ys);
-    let (number, touch) = told_report(report);
+    let (number, touch) = told_report(kerb_report::report(walk, asked, path_room.laid(), kerb));
     same(line.number()?, number)?;
-    same(read_touch(line)?, touch)
+    same(read_told(line)?, touch)
 }
 
 // A refusal's number or 0, the byte where it is placed, and the touch.
-fn told_kerbed(kerbed: Kerbed) -> (u8, usize, Touch) {
+fn told_kerbed(kerbed: Result<Option<Touch>, SweepRefusal>) -> (u8, usize, Told) {
     match kerbed {
-        Kerbed::Nothing => (0, 0, Touch::default()),
-        Kerbed::Touch(step, point) => (0, 0, touch_at(step, point)),
-        Kerbed::Stopped(number, unit, step) => (number, 0, stop_at(unit, step)),
-        Kerbed::Refused(number, byte) => (number, byte, Touch::default()),
+        Ok(touch) => (0, 0, told_touch(touch)),
+        Err(SweepRefusal::Stopped(stop)) => (stop.fault.number(), 0, told_stop(stop)),
+        Err(SweepRefusal::Refused(refusal)) => {
+            (refusal.fault.number(), refusal.place, Told::default())
+        }
     }
 }
 
-fn expect_kerbed(line: &mut Line<'_>, kerbed: Kerbed) -> Option<()> {
+fn expect_kerbed(line: &mut Line<'_>, kerbed: Result<Option<Touch>, SweepRefusal>) -> Option<()> {
     let (number, byte, touch) = told_kerbed(kerbed);
     same(line.number()?, number)?;
     same(line.number()?, byte)?;
-    same(read_touch(line)?, touch)
+    same(read_told(line)?, touch)
 }
 
 pub fn check_ticks(line: &mut Line<'_>) -> Option<()> {
@@ -120,11 +126,13 @@ pub fn check_ticks(line: &mut Line<'_>) -> Option<()> {
     let mut xs = [0i32; ROOM];
     let mut ys = [0i32; ROOM];
     let job = line.run(&mut job)?;
-    let vertices = line.number()?;
-    let xs = line.run(&mut xs)?;
-    let ys = line.run(&mut ys)?;
+    let kerb = Kerb {
+        count: line.number()?,
+        xs: line.run(&mut xs)?,
+        ys: line.run(&mut ys)?,
+    };
     line.equals_sign()?;
-    expect_kerbed(line, kerbed::check_ticks(job, vertices, xs, ys))
+    expect_kerbed(line, kerbed::check_ticks(job, kerb))
 }
 
 pub fn check_geometry(line: &mut Line<'_>) -> Option<()> {

@@ -6,8 +6,9 @@
 mod calls;
 
 use trial_tools::counts::Count;
-use trial_tools::reading::{Line, first_number};
-use trial_tools::tables;
+use trial_tools::reading::Line;
+use trial_tools::trials::{Call, Counts};
+use trial_tools::{tables, trials};
 
 #[derive(Clone, Copy)]
 enum Kind {
@@ -17,77 +18,36 @@ enum Kind {
     CheckGeometry,
 }
 
-// The calls of each kind, and the lines of no known kind.
-#[derive(Clone, Copy, Default)]
-struct Counts {
-    read: Count,
-    report: Count,
-    check_ticks: Count,
-    check_geometry: Count,
-    other: Count,
-}
+// The kinds in the order of their numbers, and what they are called.
+const KINDS: [Kind; 4] = [
+    Kind::Read,
+    Kind::Report,
+    Kind::CheckTicks,
+    Kind::CheckGeometry,
+];
 
-impl Counts {
-    fn enter(&mut self, kind: Option<Kind>, line: u64, answer: Option<()>) {
-        match kind {
-            Some(Kind::Read) => self.read.enter(line, answer),
-            Some(Kind::Report) => self.report.enter(line, answer),
-            Some(Kind::CheckTicks) => self.check_ticks.enter(line, answer),
-            Some(Kind::CheckGeometry) => self.check_geometry.enter(line, answer),
-            None => self.other.enter(line, answer),
+const NAMES: [&str; 4] = [
+    "reading a geometry",
+    "report",
+    "report from a job and ticks",
+    "report from a job and a geometry",
+];
+
+impl Call for Kind {
+    fn make(self, line: &mut Line<'_>) -> Option<()> {
+        match self {
+            Kind::Read => calls::read(line),
+            Kind::Report => calls::report(line),
+            Kind::CheckTicks => calls::check_ticks(line),
+            Kind::CheckGeometry => calls::check_geometry(line),
         }
     }
-
-    // The first line that does not answer as it should.
-    fn first_wrong(&self) -> Option<u64> {
-        [
-            self.read,
-            self.report,
-            self.check_ticks,
-            self.check_geometry,
-            self.other,
-        ]
-        .iter()
-        .filter_map(|count| count.first_wrong)
-        .min()
-    }
 }
 
-// A line counts among the calls of the kind that it begins with, even where it goes wrong right behind that.
-fn kind_of(line: &[u8]) -> Option<Kind> {
-    match first_number(line)? {
-        1 => Some(Kind::Read),
-        2 => Some(Kind::Report),
-        3 => Some(Kind::CheckTicks),
-        4 => Some(Kind::CheckGeometry),
-        _ => None,
-    }
-}
-
-fn make_call(kind: Kind, line: &mut Line<'_>) -> Option<()> {
-    match kind {
-        Kind::Read => calls::read(line),
-        Kind::Report => calls::report(line),
-        Kind::CheckTicks => calls::check_ticks(line),
-        Kind::CheckGeometry => calls::check_geometry(line),
-    }
-}
-
-// Something, where the call of a line answers as it should.
-fn try_line(kind: Option<Kind>, line: &[u8]) -> Option<()> {
-    let mut line = Line::of(line)?;
-    let _kind: usize = line.number()?;
-    make_call(kind?, &mut line)?;
-    line.end()
-}
-
-fn try_lines(text: &[u8]) -> Counts {
-    let mut counts = Counts::default();
-    for (number, line) in (1u64..).zip(text.split_inclusive(|b| *b == b'\n')) {
-        let kind = kind_of(line);
-        counts.enter(kind, number, try_line(kind, line));
-    }
-    counts
+// The first line that does not answer as it should.
+fn first_wrong(counts: &Counts<4>) -> Option<u64> {
+    let of_kinds = counts.kinds.iter().filter_map(|count| count.first_wrong);
+    of_kinds.chain(counts.other.first_wrong).min()
 }
 
 // What cannot be written is lost: a trial has nowhere else to tell it.
@@ -95,23 +55,19 @@ fn report(rt: &impl Print, name: &str, count: Count) {
     let _written = println!(rt; "{name}: {count}");
 }
 
-fn report_all(rt: &impl Print, counts: Counts) {
-    report(rt, "reading a geometry", counts.read);
-    report(rt, "report", counts.report);
-    report(rt, "report from a job and ticks", counts.check_ticks);
-    report(
-        rt,
-        "report from a job and a geometry",
-        counts.check_geometry,
-    );
-    if let Some(line) = counts.first_wrong() {
+fn report_all(rt: &impl Print, counts: Counts<4>) {
+    for (name, count) in NAMES.iter().zip(&counts.kinds) {
+        report(rt, name, *count);
+    }
+    if let Some(line) = first_wrong(&counts) {
         let _written = println!(rt; "the first that does not is on line {line}");
     }
 }
 
+// Kept: the new form is no plainer: the two tables' mains are alike, but each names its own room, table, kinds and report.
 fn main(rt: HostRuntime) {
     let mut room = tables::room::<2000000>();
     if let Some(text) = tables::whole_table(&rt, "kerbs.txt", &mut room) {
-        report_all(&rt, try_lines(text));
+        report_all(&rt, trials::try_lines(text, &KINDS));
     }
 }

@@ -1,13 +1,12 @@
 -- The end of a path from what laying ensures, and the sizes in measuring from it.
-use Prim.Native.Nat.{ℕ, ◌-◌, ◌≤◌, ◌<◌}
+use Prim.Native.Nat.{ℕ, ◌-◌, ◌≤◌}
 use mathlib.Core.Path.{◌≡◌, refl, sym, ◌∙◌, ap, subst}
 use native.Mathlib.Omega.{arith}
-use lib.ListN.{length, get_or}
+use lib.ListN.{length}
 use Rattle.std.specs.Prelude.{Result, Ok, Err, IfOk}
 use Rattle.refusal.specs.Numbers.{Answer, answered, refused, as_answer}
 use Rattle.refusal.specs.declared.Fault.{Fault}
 use Rattle.path_trials.specs.declared.PathEnd.{PathEnd}
-use lib.IntN.{pos}
 use Rattle.exact.proofs.Sizes.{within_more, within_sub}
 use Rattle.plane.specs.declared.Vec2.{Vec2}
 use Rattle.plane.specs.Vector.{minus, Moderate, BothModerate}
@@ -21,6 +20,7 @@ use Rattle.path.proofs.LayLaws.{SameLengths}
 use Rattle.path.proofs.JobLaws.{stations_count, stations_answered}
 use Rattle.path.proofs.EntryLaws.{path_in_runs, written_lengths}
 use Rattle.path.proofs.SoundLaws.{sound_path}
+use Rattle.walk.specs.TestRequires.{StationLent}
 use Rattle.path_trials.specs.Ends.{end_of, Measurable, BothMeasurable}
 
 -- stations were answered
@@ -28,17 +28,22 @@ module _ (j : Job) (r : PathRuns) (n : ℕ) (q : PathRuns) (t : LayEnsures j r (
   pub some : 1 ≤ n
   some = omega (arith, (path_in_runs j r n q t).count, stations_count j)
 
-  pub last_inside : (n - 1 < length q.xs) × (n - 1 < length q.ys)
-  last_inside =
+  pub last_lent : StationLent (n - 1) q
+  last_lent =
       let s = stations_answered j r n q t in
       let k = room (length (stations j)) r s.1 in
       let l : SameLengths q r = subst (λ (z : PathRuns). SameLengths z r) (sym s.3) (written_lengths (stations j) r) in
-      (omega (arith, some, s.2, k.0, l.xs), omega (arith, some, s.2, k.1, l.ys))
+      record {
+        xs = omega (arith, some, s.2, k.0, l.xs);
+        ys = omega (arith, some, s.2, k.1, l.ys);
+        gxs = omega (arith, some, s.2, k.2, l.gxs);
+        gys = omega (arith, some, s.2, k.3, l.gys);
+      }
 
   abbrev ended : Station → Answer PathEnd
   ended z = answered (record { stations = n; position = z.position })
 
-  pub end_read : answered (record { stations = n; position = record { x = get_or q.xs (n - 1) (pos 0); y = get_or q.ys (n - 1) (pos 0) } }) ≡ end_of j (lay_answer j r)
+  pub end_read : answered (record { stations = n; position = (station_at q (n - 1)).position }) ≡ end_of j (lay_answer j r)
   end_read =
       let e : station_at q (n - 1) ≡ job_station j (n - 1) = (path_in_runs j r n q t).entries (n - 1) (omega (arith, some)) in
       ap ended e ∙ ap (end_of j) t.answered

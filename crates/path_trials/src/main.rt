@@ -25,12 +25,11 @@ fn path_end(j: Job, room: &mut PathRoom) -> Result<PathEnd, Fault>
     ensures { as_answer result ≡ end_of j (lay_answer j (room_runs room.old)) }
 {
     let stations = path::lay(j, room)?;
-    let last = stations - 1;
-    let position = Vec2 {
-        x: plane::get(room.xs, last),
-        y: plane::get(room.ys, last),
-    };
-    Ok(PathEnd { stations, position })
+    let end = walk::tests::station_at(room.laid(), stations - 1);
+    Ok(PathEnd {
+        stations,
+        position: end.position,
+    })
 }
 
 // The least whole number whose square is at least n, and 1000 where that is more.

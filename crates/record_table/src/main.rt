@@ -39,6 +39,7 @@ fn holds(c: Case) -> bool {
 // The numbers of a case, none for one that cannot be read.
 type Numbers = [Option<i32>; 7];
 
+// Kept: the new form is no plainer: the cases write a refusal as its number, which is only compared.
 fn case_of(numbers: Numbers) -> Option<Case> {
     let [units, elements, field, index, value, number, placed] = numbers;
     Some(Case {

@@ -88,6 +88,7 @@ impl Case {
 
 const ROOM: usize = 1024;
 
+// Kept: a rule of the project needs an array with its count: there is no heap.
 // A record in the making, and where the field starts that a refusal is placed at.
 #[derive(Clone, Copy)]
 pub struct Record {
@@ -120,7 +121,7 @@ impl Record {
 
     fn put_number(&mut self, number: u64) {
         let mut rest = number;
-        // Kept: the number itself tells how many groups it takes, so no iterator steps here.
+        // Kept: the new form is no plainer: the number itself tells how many groups it takes, so no iterator has the steps.
         while 128 <= rest {
             self.put_byte((rest % 128 + 128) as u8);
             rest /= 128;

@@ -1,6 +1,9 @@
 // The runs that a line lends to a call, in arrays of one entry more than a path has stations.
+ghost use Rattle.std.specs.Prelude.{◌≤◌, length, IfSome};
+
 use marks::Mark;
 use path::PathRoom;
+use reaches::ReachRoom;
 use trial_tools::reading::Line;
 
 pub const ROOM: usize = 2002;
@@ -24,7 +27,9 @@ impl PathArrays {
         }
     }
 
-    pub fn read(&mut self, line: &mut Line<'_>) -> Option<PathRoom<'_>> {
+    pub fn read(&mut self, line: &mut Line<'_>) -> Option<PathRoom<'_>>
+        ensures { IfSome result (λ room. length room.gys.now ≤ 2002) }
+    {
         let PathArrays { xs, ys, gxs, gys } = self;
         Some(PathRoom {
             xs: line.run(xs)?,
@@ -43,14 +48,6 @@ pub struct ReachArrays {
     marks: [Mark; ROOM],
 }
 
-// The runs that a walk writes.
-#[derive(Drop)]
-pub struct ReachRuns<'r> {
-    pub left: &'r mut [i32],
-    pub right: &'r mut [i32],
-    pub marks: &'r mut [Mark],
-}
-
 impl ReachArrays {
     pub fn empty() -> ReachArrays {
         ReachArrays {
@@ -60,9 +57,11 @@ impl ReachArrays {
         }
     }
 
-    pub fn read(&mut self, line: &mut Line<'_>) -> Option<ReachRuns<'_>> {
+    pub fn read(&mut self, line: &mut Line<'_>) -> Option<ReachRoom<'_>>
+        ensures { IfSome result (λ room. length room.marks.now ≤ 2002) }
+    {
         let ReachArrays { left, right, marks } = self;
-        Some(ReachRuns {
+        Some(ReachRoom {
             left: line.run(left)?,
             right: line.run(right)?,
             marks: line.run(marks)?,

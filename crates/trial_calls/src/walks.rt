@@ -1,24 +1,21 @@
 // Calls of placing and stepping.
-use crate::runs::{PathArrays, ReachArrays, ReachRuns};
-use path::PathRoom;
-use stations::PlaceAnswer;
+use crate::runs::{PathArrays, ReachArrays};
+use refusal::Fault;
 use trial_tools::reading::{Line, same};
-use walk::StepAnswer;
+use walk::StepRefusal;
 
 // The refusal's number, 0 for none.
-fn number_of_placing(answer: PlaceAnswer) -> u8 {
-    match answer {
-        PlaceAnswer::Placed => 0,
-        PlaceAnswer::Refused(number) => number,
-    }
+// Kept: the new form is no plainer: the tables write a refusal as its number, which is only compared.
+fn number_of(answer: Result<(), Fault>) -> u8 {
+    answer.err().map_or(0, |fault| fault.number())
 }
 
 // The refusal's number and the unit that it names, 0 for none.
-fn numbers_of_step(answer: StepAnswer) -> (u8, usize) {
+fn numbers_of_step(answer: Result<(), StepRefusal>) -> (u8, usize) {
     match answer {
-        StepAnswer::Made => (0, 0),
-        StepAnswer::Refused(number) => (number, 0),
-        StepAnswer::RefusedUnit(number, unit) => (number, unit),
+        Ok(()) => (0, 0),
+        Err(StepRefusal::Call(fault)) => (fault.number(), 0),
+        Err(StepRefusal::Unit(at)) => (at.fault.number(), at.unit),
     }
 }
 
@@ -26,33 +23,33 @@ pub fn place(line: &mut Line<'_>) -> Option<()> {
     let mut path_arrays = PathArrays::empty();
     let mut reach_arrays = ReachArrays::empty();
     let vehicle = line.vehicle()?;
-    let before = line.walk()?;
+    let mut walk = line.walk()?;
     let asked = line.number()?;
-    let PathRoom { xs, ys, gxs, gys } = path_arrays.read(line)?;
-    let ReachRuns { left, right, marks } = reach_arrays.read(line)?;
+    let path_room = path_arrays.read(line)?;
+    let mut room = reach_arrays.read(line)?;
     line.equals_sign()?;
-    let placing = stations::place(vehicle, before, asked, xs, ys, gxs, gys, left, right, marks);
-    same(line.number()?, number_of_placing(placing.answer))?;
-    same(line.walk()?, placing.walk)?;
-    line.expect_run(left)?;
-    line.expect_run(right)?;
-    line.expect_run(marks)
+    let answer = stations::place(vehicle, &mut walk, asked, path_room.laid(), &mut room);
+    same(line.number()?, number_of(answer))?;
+    same(line.walk()?, walk)?;
+    line.expect_run(room.left)?;
+    line.expect_run(room.right)?;
+    line.expect_run(room.marks)
 }
 
 pub fn step(line: &mut Line<'_>) -> Option<()> {
     let mut path_arrays = PathArrays::empty();
     let mut reach_arrays = ReachArrays::empty();
-    let before = line.walk()?;
+    let mut walk = line.walk()?;
     let asked = line.number()?;
-    let PathRoom { xs, ys, gxs, gys } = path_arrays.read(line)?;
-    let ReachRuns { left, right, marks } = reach_arrays.read(line)?;
+    let path_room = path_arrays.read(line)?;
+    let mut room = reach_arrays.read(line)?;
     line.equals_sign()?;
-    let advanced = stations::step(before, asked, xs, ys, gxs, gys, left, right, marks);
-    let (number, unit) = numbers_of_step(advanced.answer);
+    let answer = stations::step(&mut walk, asked, path_room.laid(), &mut room);
+    let (number, unit) = numbers_of_step(answer);
     same(line.number()?, number)?;
     same(line.number()?, unit)?;
-    same(line.walk()?, advanced.walk)?;
-    line.expect_run(left)?;
-    line.expect_run(right)?;
-    line.expect_run(marks)
+    same(line.walk()?, walk)?;
+    line.expect_run(room.left)?;
+    line.expect_run(room.right)?;
+    line.expect_run(room.marks)
 }

@@ -25,6 +25,7 @@ impl Line<'_> {
         }
     }
 
+    // Kept: the new form is no plainer: this and `start` are alike, but each is read by its own fields' names.
     fn unit(&mut self) -> Option<Unit> {
         Some(Unit {
             wheelbase: self.number()?,
@@ -72,6 +73,7 @@ impl Line<'_> {
         })
     }
 
+    // Kept: like `unit`, for the reason given there.
     fn start(&mut self) -> Option<Start> {
         Some(Start {
             x: self.number()?,
@@ -98,6 +100,7 @@ impl Line<'_> {
         })
     }
 
+    // Kept: the new form is no plainer: the tables write a kind as a number, and it is an enum from here on.
     // 1 turns left, 2 right; 0 is a straight, whose radius is not read by anyone.
     fn curve(&mut self) -> Option<Curve> {
         let kind: u32 = self.number()?;

@@ -7,3 +7,4 @@ pub mod places;
 pub mod reading;
 pub mod rigs;
 pub mod tables;
+pub mod trials;

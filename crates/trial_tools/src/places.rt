@@ -2,7 +2,7 @@
 ghost use Rattle.std.specs.Prelude.{true, ◌≡◌};
 ghost use Rattle.points.specs.Requires.{PlaceSized};
 
-use path::Station;
+use path::{Path, Station};
 use plane::Vec2;
 use walk::Walk;
 
@@ -27,23 +27,16 @@ pub fn square_between(a: Vec2, b: Vec2) -> Option<i64> {
 }
 
 // The rig's points at the station reached, where path and record pass their tests.
-pub fn points_at(
-    w: Walk,
-    asked: usize,
-    xs: &[i32],
-    ys: &[i32],
-    gxs: &[i32],
-    gys: &[i32],
-) -> Option<[Vec2; marks::POINT_CAPACITY]> {
-    if !walk::tests::path_lent(asked, xs, ys, gxs, gys) {
+pub fn points_at(w: Walk, asked: usize, path: Path<'_>) -> Option<[Vec2; marks::POINT_CAPACITY]> {
+    if !walk::tests::path_lent(asked, path) {
         return None;
     }
-    if !walk::tests::path_sound(asked, xs, ys, gxs, gys) {
+    if !walk::tests::path_sound(asked, path) {
         return None;
     }
     if !walk::tests::record_sound(asked, w) {
         return None;
     }
-    let here = walk::tests::station_at(xs, ys, gxs, gys, w.station);
+    let here = walk::tests::station_at(path, w.station);
     Some(points::points(w.vehicle, w.d, here.position))
 }

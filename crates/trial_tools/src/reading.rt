@@ -1,5 +1,5 @@
 // The numbers of a table's lines. One that is missing, or that its type cannot hold, fails the line.
-ghost use Rattle.std.specs.Prelude.{◌↔◌, ◌≤◌, length, IfSome, IsSome, IsTrue};
+ghost use Rattle.std.specs.Prelude.{◌↔◌, ◌≡◌, ◌⊎◌, ◌≤◌, ◌++◌, [], ◌∷◌, length, IfSome, IsSome, IsTrue};
 
 use std::num::ParseIntError;
 use std::str;
@@ -66,7 +66,7 @@ impl<'a> Line<'a> {
 
 // What stands in a line, without the line feed behind it.
 pub fn content(line: &[u8]) -> &[u8]
-    ensures { length result.now ≤ length line.now }
+    ensures { (result.now ≡ line.now) ⊎ (result.now ++ 10 ∷ [] ≡ line.now) }
 {
     line.strip_suffix(b"\n").unwrap_or(line)
 }

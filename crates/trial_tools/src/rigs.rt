@@ -1,6 +1,15 @@
 // Sample rigs, all of short jobs, and jobs for them.
+ghost use Rattle.std.specs.Prelude.{◌≡◌};
+ghost use Rattle.path.specs.Lent.{path_of};
+ghost use Rattle.walk.specs.Drawn.{view};
+ghost use Rattle.reaches.specs.Lent.{room_reaches, SameLoans};
+ghost use Rattle.stations.specs.Placing.{call_of};
+ghost use Rattle.trial_tools.specs.Placed.{walk_placed, runs_placed};
+
 use job::{Body, Curve, Element, Form, Job, Side, Start, Unit, Vehicle};
+use path::Path;
 use plane::Vec2;
+use reaches::ReachRoom;
 use walk::Walk;
 
 // A unit of a short job, whose body is not read.
@@ -33,6 +42,7 @@ pub fn right_turn(length: u32, radius: u32) -> Element {
 }
 
 // A start at the origin.
+// Kept: the new form is no plainer: a start holds these two numbers by themselves.
 pub fn heading_for(gx: i32, gy: i32) -> Start {
     Start { x: 0, y: 0, gx, gy }
 }
@@ -68,11 +78,17 @@ pub fn sample_job(fold: i32, arc: u32, radius: u32) -> Job {
     }
 }
 
-// A record that no walk has used yet.
-pub fn no_walk(v: Vehicle) -> Walk {
-    Walk {
+// A vehicle placed on a path; a record whose vectors are zero, which no step takes, where it is refused.
+pub fn placed(v: Vehicle, asked: usize, path: Path<'_>, room: &mut ReachRoom<'_>) -> Walk
+    ensures loans { SameLoans room.old room.new }
+    ensures walk { view result ≡ walk_placed v (call_of asked (path_of path.entry) (room_reaches room.old)) }
+    ensures runs { room_reaches room.new ≡ runs_placed v (call_of asked (path_of path.entry) (room_reaches room.old)) (room_reaches room.old) }
+{
+    let mut w = Walk {
         vehicle: v,
         station: 0,
         d: [Vec2 { x: 0, y: 0 }; 4],
-    }
+    };
+    let _refused = stations::place(v, &mut w, asked, path, room);
+    w
 }

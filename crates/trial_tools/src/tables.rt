@@ -1,6 +1,6 @@
 // Tables, read whole into the room that is lent for them.
 ghost use Rattle.std.specs.Io.{ReadsAtMost};
-ghost use Rattle.std.specs.Prelude.{◌<◌, ◌≤◌, length, IfSome};
+ghost use Rattle.std.specs.Prelude.{◌≡◌, ◌<◌, ◌≤◌, length, replicate, IfSome};
 
 use std::io::Read;
 use std::rt::Files;
@@ -11,7 +11,7 @@ pub fn read_full<R: Read>(reader: &mut R, text: &mut [u8]) -> usize
     ensures { result ≤ length text.new }
 {
     let mut done: usize = 0;
-    // Kept: only a read tells how far it comes, so no iterator steps here.
+    // Kept: the new form is no plainer: only a read tells how far it comes, so no iterator has the steps.
     while done < text.len() {
         let n = reader.read(&mut text[done..]).unwrap_or(0);
         if n == 0 {
@@ -31,7 +31,9 @@ pub fn read_table<R: Files>(rt: &R, name: &str, text: &mut [u8]) -> io::Result<u
 }
 
 // Room for a table of so many bytes.
-pub fn room<const SIZE: usize>() -> [u8; SIZE] {
+pub fn room<const SIZE: usize>() -> [u8; SIZE]
+    ensures { result ≡ replicate SIZE 0 }
+{
     [0; SIZE]
 }
 

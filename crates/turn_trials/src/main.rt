@@ -9,6 +9,7 @@ use crate::spread::{ROWS, Squares};
 use job::{Job, Vehicle};
 use path::{Path, PathRoom};
 use plane::Vec2;
+use reaches::ReachRoom;
 use std::str;
 use std::str::SplitAsciiWhitespace;
 use trial_tools::{places, rigs, tables};
@@ -34,6 +35,7 @@ fn measure_row(
     }
 }
 
+// Kept: the new form is no plainer: the number of stations is none of the five points.
 // The row of the station reached against the rig there, where it is that station's row.
 fn measure_station(
     w: Walk,
@@ -46,62 +48,54 @@ fn measure_station(
     if row != w.station {
         return None;
     }
-    let drawn = places::points_at(w, asked, path.xs, path.ys, path.gxs, path.gys)?;
+    let drawn = places::points_at(w, asked, path)?;
     measure_row(figures, row, drawn, points);
     Some(())
 }
 
+// Kept: the five points, for the reason given above.
 // The rig is placed and stepped, and measured at each station as long as the rows go on; the rows measured.
 fn measure_walk(
     v: Vehicle,
     asked: usize,
     path: Path<'_>,
-    left: &mut [i32],
-    right: &mut [i32],
-    marks: &mut [marks::Mark],
+    room: &mut ReachRoom<'_>,
     figures: &mut SplitAsciiWhitespace<'_>,
     points: &mut [Squares; 5],
 ) -> usize {
-    let before = rigs::no_walk(v);
-    let Path { xs, ys, gxs, gys } = path;
-    let placing = stations::place(v, before, asked, xs, ys, gxs, gys, left, right, marks);
-    let mut w = placing.walk;
+    let mut w = rigs::placed(v, asked, path, room);
     for rows in 0..asked {
         if measure_station(w, asked, path, figures, points).is_none() {
             return rows;
         }
-        let advanced = stations::step(w, asked, xs, ys, gxs, gys, left, right, marks);
-        w = advanced.walk;
+        // A rig that is held up meets a row that is not its station's.
+        let _refused = stations::step(&mut w, asked, path, room);
     }
     asked
 }
 
 // The path is laid and the rig walked along it; the rows measured.
 fn measure(j: Job, text: &str, points: &mut [Squares; 5]) -> usize {
-    let mut xs = [0i32; ROWS];
-    let mut ys = [0i32; ROWS];
-    let mut gxs = [0i32; ROWS];
-    let mut gys = [0i32; ROWS];
-    let mut left = [0i32; ROWS];
-    let mut right = [0i32; ROWS];
-    let mut marks = [0u32; ROWS];
-    let mut room = PathRoom {
-        xs: &mut xs,
-        ys: &mut ys,
-        gxs: &mut gxs,
-        gys: &mut gys,
+    let mut path_room = PathRoom {
+        xs: &mut [0i32; ROWS],
+        ys: &mut [0i32; ROWS],
+        gxs: &mut [0i32; ROWS],
+        gys: &mut [0i32; ROWS],
     };
-    let Ok(asked) = path::lay(j, &mut room) else {
+    let mut room = ReachRoom {
+        left: &mut [0i32; ROWS],
+        right: &mut [0i32; ROWS],
+        marks: &mut [0u32; ROWS],
+    };
+    let Ok(asked) = path::lay(j, &mut path_room) else {
         return 0;
     };
     let mut figures = text.split_ascii_whitespace();
     measure_walk(
         j.vehicle,
         asked,
-        room.laid(),
-        &mut left,
-        &mut right,
-        &mut marks,
+        path_room.laid(),
+        &mut room,
         &mut figures,
         points,
     )

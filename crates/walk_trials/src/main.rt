@@ -3,9 +3,9 @@
 
 use job::{Form, Job, Vehicle};
 use path::{Path, PathRoom};
-use reaches::{Place, WidestAnswer};
+use reaches::{Place, ReachRoom};
 use trial_tools::rigs;
-use walk::{StepAnswer, Walk};
+use walk::Walk;
 
 // The steps that a rig makes, and where it is widest.
 #[derive(Clone, Copy, PartialEq, Eq)]
@@ -15,55 +15,32 @@ struct Walked {
 }
 
 // A rig is placed and stepped until a step is refused; the steps made, and the record that the walk ends with.
-fn walk_along(
-    v: Vehicle,
-    asked: usize,
-    path: Path<'_>,
-    left: &mut [i32],
-    right: &mut [i32],
-    marks: &mut [marks::Mark],
-) -> (usize, Walk) {
-    let before = rigs::no_walk(v);
-    let Path { xs, ys, gxs, gys } = path;
-    let placing = stations::place(v, before, asked, xs, ys, gxs, gys, left, right, marks);
-    let mut w = placing.walk;
+fn walk_along(v: Vehicle, asked: usize, path: Path<'_>, room: &mut ReachRoom<'_>) -> (usize, Walk) {
+    let mut w = rigs::placed(v, asked, path, room);
     for made in 0..asked {
-        let advanced = stations::step(w, asked, xs, ys, gxs, gys, left, right, marks);
-        if !matches!(advanced.answer, StepAnswer::Made) {
+        if stations::step(&mut w, asked, path, room).is_err() {
             return (made, w);
         }
-        w = advanced.walk;
     }
     (asked, w)
 }
 
 // The job's path is laid and its rig walked along it.
 fn walk_of(j: Job) -> Option<Walked> {
-    let mut xs = [0i32; 2001];
-    let mut ys = [0i32; 2001];
-    let mut gxs = [0i32; 2001];
-    let mut gys = [0i32; 2001];
-    let mut left = [0i32; 2001];
-    let mut right = [0i32; 2001];
-    let mut marks = [0u32; 2001];
-    let mut room = PathRoom {
-        xs: &mut xs,
-        ys: &mut ys,
-        gxs: &mut gxs,
-        gys: &mut gys,
+    let mut path_room = PathRoom {
+        xs: &mut [0i32; 2001],
+        ys: &mut [0i32; 2001],
+        gxs: &mut [0i32; 2001],
+        gys: &mut [0i32; 2001],
     };
-    let asked = path::lay(j, &mut room).ok()?;
-    let (steps, w) = walk_along(
-        j.vehicle,
-        asked,
-        room.laid(),
-        &mut left,
-        &mut right,
-        &mut marks,
-    );
-    let WidestAnswer::At(widest) = reaches::widest(w, asked, &left, &right, &marks) else {
-        return None;
+    let mut room = ReachRoom {
+        left: &mut [0i32; 2001],
+        right: &mut [0i32; 2001],
+        marks: &mut [0u32; 2001],
     };
+    let asked = path::lay(j, &mut path_room).ok()?;
+    let (steps, w) = walk_along(j.vehicle, asked, path_room.laid(), &mut room);
+    let widest = reaches::widest(w, asked, room.reached()).ok()?;
     Some(Walked { steps, widest })
 }
 
