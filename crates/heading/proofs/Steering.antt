@@ -9,6 +9,7 @@ use lib.Dec.{leb, ltb→lt, lit≤}
 use native.Mathlib.Nat as NatL
 use lib.IntN.{ℤ, pos, negsuc, neg_ℤ, nat_abs, ◌+ℤ◌, ◌-ℤ◌, ◌*ℤ◌, +ℤ_idl}
 use lib.Signed.{◌≤ℤ◌, lt_z}
+use Rattle.std.proofs.lemmas.Bool.{and_parts}
 use Rattle.exact.proofs.Order.{of_true, of_false, pos-≤, ≤-pos}
 use Rattle.exact.specs.Size.{Within}
 use Rattle.exact.proofs.NearestLaws.{nearest_bounded}
@@ -16,7 +17,6 @@ use Rattle.exact.proofs.Sizes.{abs_neg, within_add, within_mul, within_more, ≤
 use Rattle.exact.proofs.Machine.{Bounded, none, ◌∷ᵇ◌, within_size_of}
 use Rattle.exact.proofs.Polynomial.{var, ◌⊕◌, ◌⊗◌}
 use Rattle.plane.specs.Vector.{plus, BothModerate, Scalable}
-use Rattle.number.proofs.FieldCodec.{both}
 use Rattle.plane.specs.declared.Vec2.{Vec2}
 use Rattle.plane.specs.Length.{heading_length, Near}
 use Rattle.job.specs.Curves.{radius_allowed}
@@ -27,7 +27,7 @@ use Rattle.heading.proofs.Arc.{arc_is_tangent}
 
 -- an arc's radius, by size
 arc_size : (a : ℕ) → radius_allowed (pos (suc a)) ≡ true → (20000 ≤ suc a) × (suc a ≤ 1000000)
-arc_size a t = let b = both (leb 20000 (suc a)) (leb (suc a) 1000000) t in (leb-true 20000 (suc a) b.0, leb-true (suc a) 1000000 b.1)
+arc_size a t = let b = and_parts (leb 20000 (suc a)) (leb (suc a) 1000000) t in (leb-true 20000 (suc a) b.0, leb-true (suc a) 1000000 b.1)
 
 -- the tangent s / (2a) to either side
 tangent_of_lem : (g : Vec2) (s p : ℤ) (a : ℕ) → Near g heading_length (pos 2 *ℤ heading_length) → pos 1 ≤ℤ s → s ≤ℤ pos 20000 → nat_abs p ≡ nat_abs s

@@ -5,6 +5,7 @@ use mathlib.Core.Bool.{Bool, true, false, ◌||◌}
 use native.Mathlib.Omega.{arith}
 use lib.Dec.{leb}
 use borrow.Author.Tests.{le-leb, lt-leb}
+use Rattle.std.proofs.lemmas.Bool.{or_right}
 use Rattle.job.specs.Allowed.{between, unit_count_allowed}
 use Rattle.job.specs.Announced.{announces, announced_form, announced_count, announcing}
 use Rattle.job.proofs.FieldLaws.{range, inside}
@@ -14,10 +15,6 @@ use Rattle.job.specs.declared.Form.TheVariants.{Short, Long}
 either : {P : Type 0} (a b : Bool) → (a || b) ≡ true → (a ≡ true → P) → (b ≡ true → P) → P
 either true b t f g = f refl
 either false b t f g = g t
-
-or_right : (a : Bool) {b : Bool} → b ≡ true → (a || b) ≡ true
-or_right true t = refl
-or_right false t = t
 
 -- n announces so many units of this form, and nothing else
 pub record Announced (f : Form) (k n : ℕ) : Type 0 where
@@ -34,7 +31,7 @@ announced Long k t =
     let r = range 1 4 k t in
     let high : leb (k + 10) 4 ≡ false = lt-leb (k + 10) 4 (omega arith) in
     let long : between 11 14 (k + 10) ≡ true = inside 11 14 (k + 10) (omega arith) (omega arith) in
-    record { allowed = or_right (between 1 4 (k + 10)) long; form = rw high; count = rw high (omega arith) }
+    record { allowed = or_right (between 1 4 (k + 10)) _ long; form = rw high; count = rw high (omega arith) }
 
 -- and what the reader takes is announced by that number alone
 pub announced_by : (n : ℕ) → announces n ≡ true → (unit_count_allowed (announced_count n) ≡ true) × (announcing (announced_form n) (announced_count n) ≡ n)

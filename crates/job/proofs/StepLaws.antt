@@ -5,8 +5,9 @@ use mathlib.Core.Bool.{true}
 use native.Mathlib.Omega.{arith}
 use native.Mathlib.Nat.{div-le_self}
 use lib.Dec.{eqb}
+use Rattle.std.proofs.lemmas.Bool.{and_parts}
 use Rattle.number.proofs.GroupLaws.{pick_by}
-use Rattle.number.proofs.FieldCodec.{both, within_most}
+use Rattle.number.proofs.FieldCodec.{within_most}
 use Rattle.job.specs.declared.Element.{Element}
 use Rattle.job.specs.Allowed.{length_allowed, curve_allowed, element_allowed}
 use Rattle.job.specs.Steps.{steps_of, tally}
@@ -19,5 +20,5 @@ steps_le step length =
 
 pub tally_most : (step total : ℕ) (e : Element) → element_allowed e ≡ true → tally step total e ≤ total + 40000001
 tally_most step total e t =
-    let l : length_allowed e.length ≡ true = (both (length_allowed e.length) (curve_allowed e.curve) t).0 in
+    let l : length_allowed e.length ≡ true = (and_parts (length_allowed e.length) (curve_allowed e.curve) t).0 in
     omega (arith, steps_le step e.length, within_most (record { least = 1; most = 40000000 }) e.length l)

@@ -4,6 +4,7 @@ use mathlib.Core.Path.{◌≡◌, refl, sym, ◌∙◌, ap}
 use mathlib.Core.List.{List}
 use mathlib.Core.Bool.{Bool, true}
 use lib.IntN.{ℤ}
+use Rattle.std.proofs.lemmas.Bool.{and_parts, and_from}
 use Rattle.number.specs.Read.{got, and_then, unless, return}
 use Rattle.number.specs.Number.{read_number}
 use Rattle.number.specs.Field.{within, field, signed_number, signed_field}
@@ -15,7 +16,6 @@ use Rattle.job.specs.Curves.{curve_of, radius_allowed}
 use Rattle.job.specs.Steps.{tally}
 use Rattle.job.specs.declared.Element.{Element}
 use Rattle.job.proofs.StepLaws.{tally_most}
-use Rattle.number.proofs.FieldCodec.{and, both}
 use Rattle.number.specs.declared.Range.{Range}
 use Rattle.job_reader.specs.Record.{read_element}
 
@@ -42,7 +42,7 @@ element_allowed_lem s at x e h =
     let l : length_allowed f.value ≡ true = field_allowed 8 length_allowed s at f.value f.next f.reads in
     let r : radius_allowed g.value ≡ true = signed_allowed 8 radius_allowed s f.next g.value g.next g.reads in
     let m : ◌≡◌ {A = Element} (record { length = f.value; curve = curve_of g.value }) x = cc in
-    ap element_allowed (sym m) ∙ and l r
+    ap element_allowed (sym m) ∙ and_from _ _ l r
 
 pub tally_read : (step total : ℕ) (s : List ℕ) (at : ℕ) (x : Element) (e : ℕ) → read_element s at ≡ got x e → tally step total x ≤ total + 40000001
 tally_read step total s at x e h = tally_most step total x (element_allowed_lem s at x e h)
@@ -50,5 +50,5 @@ tally_read step total s at x e h = tally_most step total x (element_allowed_lem 
 -- a field in a range that was read lies in it
 pub field_within : (n : ℕ) (r : Range) (s : List ℕ) (at v e : ℕ) → got v e ≡ field n (within r) s at → (r.least ≤ v) × (v ≤ r.most)
 field_within n r s at v e h =
-    let b = both (leb r.least v) (leb v r.most) (field_allowed n (within r) s at v e (sym h)) in
+    let b = and_parts (leb r.least v) (leb v r.most) (field_allowed n (within r) s at v e (sym h)) in
     (leb-true r.least v b.0, leb-true v r.most b.1)

@@ -10,11 +10,12 @@ use lib.Seq.{get_or-take}
 use lib.IntN.{ℤ, nat_abs}
 use lib.Dec.{eqb, leb}
 use borrow.Author.Tests.{leb-true, leb-false, eqb-true}
+use Rattle.std.proofs.lemmas.Bool.{and_parts}
 use Rattle.number.specs.Read.{write_many}
 use Rattle.number.specs.Number.{write_number}
 use Rattle.number.specs.Signed.{field_of, write_signed}
 use Rattle.number.proofs.GroupLaws.{pick_by}
-use Rattle.number.proofs.FieldCodec.{both, within_most, field_size}
+use Rattle.number.proofs.FieldCodec.{within_most, field_size}
 use Rattle.number.proofs.Widths.{number_width, many_width}
 use Rattle.job.specs.Allowed.{wheelbase_allowed, hitch_most, hitch_allowed, fold_allowed, overhang_most, overhang_allowed, old_overhang_allowed, half_width_allowed, coordinate_allowed, heading_allowed, step_allowed, length_allowed, curve_allowed, unit_allowed, body_allowed, widths_allowed, start_allowed, element_allowed}
 use Rattle.job.specs.Announced.{announcing}
@@ -38,7 +39,7 @@ use Rattle.job_writer.specs.Length.{body_width, unit_width, widths_width, start_
 
 -- a number in a range, by the range's most
 ranged : (k least most v : ℕ) → most < 128 ^ suc k → (leb least v && leb v most) ≡ true → length (write_number v) ≤ suc k
-ranged k least most v h t = number_width k v (omega (arith, leb-true v most (both (leb least v) (leb v most) t).1))
+ranged k least most v h t = number_width k v (omega (arith, leb-true v most (and_parts (leb least v) (leb v most) t).1))
 
 -- a signed number, by its size
 sized : (k most : ℕ) (z : ℤ) → 2 * most < 128 ^ suc k → nat_abs z ≤ most → length (write_signed z) ≤ suc k
@@ -55,8 +56,8 @@ body_length : (form : Form) (b : Body) → body_fault form b ≡ 0 → length (w
 body_length Short b h = omega arith
 body_length Long b h =
     let t = (or_none (body_allowed b) 4 0 h).0 in
-    let a = both (overhang_allowed b.front_overhang) (overhang_allowed b.rear_overhang && half_width_allowed b.half_width) t in
-    let c = both (overhang_allowed b.rear_overhang) (half_width_allowed b.half_width) a.1 in
+    let a = and_parts (overhang_allowed b.front_overhang) (overhang_allowed b.rear_overhang && half_width_allowed b.half_width) t in
+    let c = and_parts (overhang_allowed b.rear_overhang) (half_width_allowed b.half_width) a.1 in
     three_length b.front_overhang b.rear_overhang b.half_width
     (ranged 2 0 50000 b.front_overhang (omega arith) a.0)
     (ranged 2 0 50000 b.rear_overhang (omega arith) c.0)
@@ -65,8 +66,8 @@ body_length Long b h =
 pub unit_length : (form : Form) (first last : Bool) (u : VehicleUnit) → unit_fault form first last u ≡ 0 → length (write_unit form u) ≤ unit_width
 unit_length form first last u f =
     let n = first_none (measures_fault first last u) (body_fault form u.body) f in
-    let a = both (wheelbase_allowed u.wheelbase) (hitch_allowed last u.wheelbase u.hitch && fold_allowed first u.fold) (or_none (unit_allowed first last u) 3 0 n.0).0 in
-    let b = both (hitch_allowed last u.wheelbase u.hitch) (fold_allowed first u.fold) a.1 in
+    let a = and_parts (wheelbase_allowed u.wheelbase) (hitch_allowed last u.wheelbase u.hitch && fold_allowed first u.fold) (or_none (unit_allowed first last u) 3 0 n.0).0 in
+    let b = and_parts (hitch_allowed last u.wheelbase u.hitch) (fold_allowed first u.fold) a.1 in
     let w : u.wheelbase ≤ 200000 = within_most (record { least = 5000; most = 200000 }) u.wheelbase a.0 in
     let h : nat_abs u.hitch ≤ 200000 = omega (arith, w, hitch_most_lem last u.wheelbase, leb-true (nat_abs u.hitch) (hitch_most last u.wheelbase) b.0) in
     omega (
@@ -82,8 +83,8 @@ unit_length form first last u f =
 
 pub widths_length : (v : Vehicle) → widths_allowed v ≡ true → length (write_widths v) ≤ widths_width
 widths_length v t =
-    let a = both (old_overhang_allowed v.form v.overhang) (half_width_allowed v.front_half_width && half_width_allowed v.rear_half_width) t in
-    let b = both (half_width_allowed v.front_half_width) (half_width_allowed v.rear_half_width) a.1 in
+    let a = and_parts (old_overhang_allowed v.form v.overhang) (half_width_allowed v.front_half_width && half_width_allowed v.rear_half_width) t in
+    let b = and_parts (half_width_allowed v.front_half_width) (half_width_allowed v.rear_half_width) a.1 in
     three_length v.overhang v.front_half_width v.rear_half_width
     (ranged 2 0 (overhang_most v.form) v.overhang (omega (arith, overhang_most_lem v.form)) a.0)
     (ranged 2 1000 20000 v.front_half_width (omega arith) b.0)
@@ -91,8 +92,8 @@ widths_length v t =
 
 pub start_length : (s : Start) → start_allowed s ≡ true → length (write_start s) ≤ start_width
 start_length s t =
-    let a = both (coordinate_allowed s.x) (coordinate_allowed s.y && heading_allowed s.gx s.gy) t in
-    let b = both (coordinate_allowed s.y) (heading_allowed s.gx s.gy) a.1 in
+    let a = and_parts (coordinate_allowed s.x) (coordinate_allowed s.y && heading_allowed s.gx s.gy) t in
+    let b = and_parts (coordinate_allowed s.y) (heading_allowed s.gx s.gy) a.1 in
     let g = heading_sizes s.gx s.gy b.1 in
     omega (
       arith,
@@ -115,7 +116,7 @@ covered step l h =
 -- a step is at most 20,000, and 104 of them are less than a length of four bytes
 long_steps : (step l : ℕ) → step_allowed step ≡ true → 128 ^ 3 ≤ l → 105 ≤ steps_of step l
 long_steps step l t h =
-    let b = both (leb 100 step) (leb step 20000) t in
+    let b = and_parts (leb 100 step) (leb step 20000) t in
     let least = leb-true 100 step b.0 in
     let most = leb-true step 20000 b.1 in
     omega (arith, covered step l (omega arith), mul-le-mul_left (steps_of step l) most)
@@ -125,7 +126,7 @@ pub element_length : (step : ℕ) (e : Element) → step_allowed step ≡ true �
 element_length step e d t = go (leb (128 ^ 3) e.length) refl
   where
     a : (length_allowed e.length ≡ true) × (curve_allowed e.curve ≡ true)
-    a = both (length_allowed e.length) (curve_allowed e.curve) t
+    a = and_parts (length_allowed e.length) (curve_allowed e.curve) t
 
     radius : length (write_element e) ≤ length (write_number e.length) + 3
     radius = omega (
@@ -211,4 +212,4 @@ elements_allowed step count es h f i l =
     let q = fault_at element_fault (tally step) total_fault 0 (take count es) i empty_element f (omega (arith, length-take count es)) in
     let e = get_or es i empty_element in
     let t : element_allowed e ≡ true = (or_none (element_allowed e) 7 0 (rw (get_or-take count es i empty_element l) at q.1)).0 in
-    (both (length_allowed e.length) (curve_allowed e.curve) t).1
+    (and_parts (length_allowed e.length) (curve_allowed e.curve) t).1

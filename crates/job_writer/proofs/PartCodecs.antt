@@ -6,9 +6,10 @@ use mathlib.Core.Bool.{Bool, true, ◌&&◌}
 use native.Mathlib.Omega.{arith}
 use lib.Dec.{leb}
 use lib.IntN.{ℤ, pos, negsuc, nat_abs}
+use Rattle.std.proofs.lemmas.Bool.{and_parts, and_from}
 use Rattle.number.specs.Signed.{field_of}
 use Rattle.number.proofs.Codec.{Codec, returned, bound, placed, lastly}
-use Rattle.number.proofs.FieldCodec.{recast, both, and, within_most, field_size, within_codec, sized_codec, signed_codec, signed_field_codec}
+use Rattle.number.proofs.FieldCodec.{recast, within_most, field_size, within_codec, sized_codec, signed_codec, signed_field_codec}
 use Rattle.job.specs.Allowed.{wheelbase_allowed, hitch_most, hitch_allowed, fold_allowed, overhang_most, overhang_allowed, old_overhang_allowed, half_width_allowed, coordinate_allowed, heading_allowed, length_allowed, curve_allowed, unit_allowed, body_allowed, widths_allowed, start_allowed, element_allowed}
 use Rattle.job.specs.Faults.{or_fault, measures_fault, body_fault, unit_fault}
 use Rattle.job.specs.Empty.{empty_body, cleared_body, cleared_unit}
@@ -44,10 +45,10 @@ pub body : (form : Form) → Codec (read_body_of form) (write_body form) (λ b. 
 unfolding read_body
 body Short = recast (λ b o. (refl, o)) (λ b o. o.1) (returned empty_body)
 body Long =
-    recast (λ b o. (passed (body_allowed b) 4 (and o.0 (and o.1.0 o.1.1.0)), refl))
+    recast (λ b o. (passed (body_allowed b) 4 (and_from _ _ o.0 (and_from _ _ o.1.0 o.1.1.0)), refl))
     (λ b t.
-    let a = both (overhang_allowed b.front_overhang) (overhang_allowed b.rear_overhang && half_width_allowed b.half_width) (or_none (body_allowed b) 4 0 t.0).0 in
-    let c = both (overhang_allowed b.rear_overhang) (half_width_allowed b.half_width) a.1 in
+    let a = and_parts (overhang_allowed b.front_overhang) (overhang_allowed b.rear_overhang && half_width_allowed b.half_width) (or_none (body_allowed b) 4 0 t.0).0 in
+    let c = and_parts (overhang_allowed b.rear_overhang) (half_width_allowed b.half_width) a.1 in
     (a.0, (c.0, (c.1, (refl, refl)))))
     (bound (λ b. b.front_overhang) (within_codec 5 (record { least = 0; most = 50000 }) (omega arith))
     (λ f _.
@@ -64,13 +65,13 @@ unfolding read_unit
 unit form first last =
     recast
     (λ u o.
-    let m : measures_fault first last u ≡ 0 = passed (unit_allowed first last u) 3 (and o.0 (and o.1.0 o.1.1.0)) in
+    let m : measures_fault first last u ≡ 0 = passed (unit_allowed first last u) 3 (and_from _ _ o.0 (and_from _ _ o.1.0 o.1.1.0)) in
     let b = o.1.1.1.0 in
     (rw m b.0, ap (unit_from u.wheelbase u.hitch u.fold) b.1))
     (λ u t.
     let n = first_none (measures_fault first last u) (body_fault form u.body) t.0 in
-    let a = both (wheelbase_allowed u.wheelbase) (hitch_allowed last u.wheelbase u.hitch && fold_allowed first u.fold) (or_none (unit_allowed first last u) 3 0 n.0).0 in
-    let b = both (hitch_allowed last u.wheelbase u.hitch) (fold_allowed first u.fold) a.1 in
+    let a = and_parts (wheelbase_allowed u.wheelbase) (hitch_allowed last u.wheelbase u.hitch && fold_allowed first u.fold) (or_none (unit_allowed first last u) 3 0 n.0).0 in
+    let b = and_parts (hitch_allowed last u.wheelbase u.hitch) (fold_allowed first u.fold) a.1 in
     (a.0, (b.0, (b.1, ((n.1, ap (λ (x : VehicleUnit). x.body) t.1), (refl, refl))))))
     (bound (λ u. u.wheelbase) (within_codec 4 (record { least = 5000; most = 200000 }) (omega arith))
     (λ l p.
@@ -91,14 +92,14 @@ widths form n us =
     recast
     (λ v o.
     let e = sym (ap (λ (x : Vehicle). x.form) o.1.1.1.1) in (
-      and (ap (λ (x : Form). old_overhang_allowed x v.overhang) (sym e) ∙ o.0) (and o.1.0 o.1.1.0),
+      and_from _ _ (ap (λ (x : Form). old_overhang_allowed x v.overhang) (sym e) ∙ o.0) (and_from _ _ o.1.0 o.1.1.0),
       e,
       sym (ap (λ (x : Vehicle). x.count) o.1.1.1.1),
       sym (ap (λ (x : Vehicle). x.units) o.1.1.1.1),
     ))
     (λ v t.
-    let a = both (old_overhang_allowed v.form v.overhang) (half_width_allowed v.front_half_width && half_width_allowed v.rear_half_width) t.0 in
-    let b = both (half_width_allowed v.front_half_width) (half_width_allowed v.rear_half_width) a.1 in
+    let a = and_parts (old_overhang_allowed v.form v.overhang) (half_width_allowed v.front_half_width && half_width_allowed v.rear_half_width) t.0 in
+    let b = and_parts (half_width_allowed v.front_half_width) (half_width_allowed v.rear_half_width) a.1 in
     (ap (λ (x : Form). old_overhang_allowed x v.overhang) t.1 ∙ a.0, (b.0, (b.1, (refl, rw (t.1, t.2, t.3))))))
     (bound (λ v. v.overhang) (within_codec 5 (record { least = 0; most = overhang_most form }) (omega (arith, overhang_most_lem form)))
     (λ o _.
@@ -113,10 +114,10 @@ start_from x y gx gy = record { x = x; y = y; gx = gx; gy = gy }
 pub start : Codec read_start write_start (λ s. start_allowed s ≡ true)
 unfolding read_start
 start =
-    recast (λ s o. and o.0 (and o.1.0 o.1.1.1.1.0))
+    recast (λ s o. and_from _ _ o.0 (and_from _ _ o.1.0 o.1.1.1.1.0))
     (λ s t.
-    let a = both (coordinate_allowed s.x) (coordinate_allowed s.y && heading_allowed s.gx s.gy) t in
-    let b = both (coordinate_allowed s.y) (heading_allowed s.gx s.gy) a.1 in
+    let a = and_parts (coordinate_allowed s.x) (coordinate_allowed s.y && heading_allowed s.gx s.gy) t in
+    let b = and_parts (coordinate_allowed s.y) (heading_allowed s.gx s.gy) a.1 in
     let g = heading_sizes s.gx s.gy b.1 in
     (a.0, (b.0, (small s.gx (omega (arith, g.0)), (small s.gy (omega (arith, g.1)), (b.1, refl))))))
     (bound (λ s. s.x) (sized_codec 6 100000000 (omega arith))
@@ -136,9 +137,9 @@ radius_curve (negsuc r) = refl
 
 curve_radius : (c : Curve) → curve_allowed c ≡ true → curve_of (radius_of c) ≡ c
 curve_radius Straight t = refl
-curve_radius (Arc Right zero) t = absurd (let z : ◌≡◌ {A = Bool} true (leb 20000 0) = sym (both (leb 20000 0) (leb 0 1000000) t).0 in let q : ◌≡◌ {A = ℕ} 0 1 = cc in omega arith)
+curve_radius (Arc Right zero) t = absurd (let z : ◌≡◌ {A = Bool} true (leb 20000 0) = sym (and_parts (leb 20000 0) (leb 0 1000000) t).0 in let q : ◌≡◌ {A = ℕ} 0 1 = cc in omega arith)
 curve_radius (Arc Right (suc r)) t = refl
-curve_radius (Arc Left zero) t = absurd (let z : ◌≡◌ {A = Bool} true (leb 20000 0) = sym (both (leb 20000 0) (leb 0 1000000) t).0 in let q : ◌≡◌ {A = ℕ} 0 1 = cc in omega arith)
+curve_radius (Arc Left zero) t = absurd (let z : ◌≡◌ {A = Bool} true (leb 20000 0) = sym (and_parts (leb 20000 0) (leb 0 1000000) t).0 in let q : ◌≡◌ {A = ℕ} 0 1 = cc in omega arith)
 curve_radius (Arc Left (suc r)) t = refl
 
 radius_small : (z : ℤ) → radius_allowed z ≡ true → field_of z < 2 ^ 32
@@ -152,9 +153,9 @@ element_from l z = record { length = l; curve = curve_of z }
 pub element : Codec read_element write_element (λ e. element_allowed e ≡ true)
 unfolding read_element
 element =
-    recast (λ e o. and o.0 (ap (λ (x : Element). curve_allowed x.curve) o.1.1.1 ∙ o.1.0))
+    recast (λ e o. and_from _ _ o.0 (ap (λ (x : Element). curve_allowed x.curve) o.1.1.1 ∙ o.1.0))
     (λ e t.
-    let a = both (length_allowed e.length) (curve_allowed e.curve) t in
+    let a = and_parts (length_allowed e.length) (curve_allowed e.curve) t in
     let c = curve_radius e.curve a.1 in
     (a.0, (ap curve_allowed c ∙ a.1, (refl, rw c))))
     (bound (λ e. e.length) (within_codec 8 (record { least = 1; most = 40000000 }) (omega arith))

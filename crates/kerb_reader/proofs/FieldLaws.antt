@@ -11,9 +11,9 @@ use borrow.Author.Tests.{le-leb, lt-leb, leb-true, eq-eqb, ne_eqb}
 use lib.Dec.{leb, eqb}
 use lib.ListN.{length}
 use lib.Ieee.{Float, nan, inf, fin, binary64, of_bits}
+use Rattle.std.proofs.lemmas.Bool.{and_parts}
 use Rattle.number.specs.Read.{got, refused, unless, return}
 use Rattle.number.proofs.Codec.{first, chosen}
-use Rattle.number.proofs.FieldCodec.{both}
 use Rattle.job.specs.Allowed.{between}
 use Rattle.metres.specs.Bytes.{little_endian, finite_of, metres_at}
 use Rattle.metres.specs.Tick.{metres_most, size_at_most}
@@ -56,7 +56,7 @@ unfolding header
 in_use s at v e h =
     let f = first (bytes_field 4 s at) (λ a x. unless (between 2 vertices_most a) 12 at (return a) s x) v e (sym h) in
     let c = chosen (between 2 vertices_most f.value) refl f.value f.next 12 at v e f.then in
-    leb-true v vertices_most (both (leb 2 v) (leb v vertices_most) (ap (between 2 vertices_most) (sym c.1) ∙ c.0)).1
+    leb-true v vertices_most (and_parts (leb 2 v) (leb v vertices_most) (ap (between 2 vertices_most) (sym c.1) ∙ c.0)).1
 
 -- a coordinate
 not_sized : (x : Float) → finite_of x ≡ none → size_at_most metres_most x ≡ false

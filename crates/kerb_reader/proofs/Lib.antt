@@ -1,4 +1,3 @@
-pub mod PartLaws
 pub mod FieldLaws
 pub mod WriteLaws
 pub mod EachLaws

@@ -10,13 +10,14 @@ use lib.Dec.{leb, eqb}
 use lib.IntN.{ℤ, pos}
 use lib.ListN.{length, get_or, take, drop, length-take, length-drop, length-map, get_or-append, get_or-map}
 use lib.Seq.{sets, sets-eq, length-sets}
+use Rattle.std.proofs.lemmas.Bool.{and_parts, and_from}
+use Rattle.std.proofs.lemmas.List.{get_or_default}
 use Rattle.std.proofs.lemmas.List.{drop-take}
 use Rattle.std.specs.Prelude.{Result, Ok, Err}
 use Rattle.refusal.specs.Numbers.{number_of}
 use Rattle.refusal.specs.declared.Refusal.{Refusal}
 use Rattle.number.specs.Read.{Read, got, refused, pick}
 use Rattle.number.proofs.Codec.{first, chosen}
-use Rattle.number.proofs.FieldCodec.{both, and}
 use Rattle.number.proofs.ManyLaws.{none_of}
 use Rattle.metres.specs.Tick.{VertexWithin}
 use Rattle.metres.specs.declared.Vertex.{Vertex}
@@ -31,7 +32,6 @@ use Rattle.kerb_reader.specs.Answers as K
 use Rattle.kerb_reader.specs.Ticks.{room_in, east_of, north_of, east_ticks, north_ticks, kerb_answer, ticks_in, KerbEnsures}
 use Rattle.kerb_reader.specs.Inner.{first_of, count_of, SurveyWithin, SurveyWritten}
 use Rattle.kerb_reader.specs.Claims.{KerbWithin, KerbWithinLimits}
-use Rattle.kerb_reader.proofs.PartLaws.{inside}
 use Rattle.kerb_reader.proofs.EachLaws.{Each, each_take, each_drop, each_cons}
 use Rattle.kerb_reader.proofs.Reaching.{no_vertex_within, survey_local}
 
@@ -80,14 +80,14 @@ written_entry tick vs run i h l =
     let n = length-map vs tick in
     let k : i < length (map tick vs) = omega arith in
     ap (λ (xs : List ℤ). get_or xs i (pos 0)) (sets-eq (map tick vs) run 0 (omega arith))
-    ∙ get_or-append (map tick vs) _ (pos 0) i k ∙ inside (map tick vs) i (pos 0) (tick no_vertex) k ∙ get_or-map tick vs i no_vertex
+    ∙ get_or-append (map tick vs) _ (pos 0) i k ∙ get_or_default (map tick vs) i (pos 0) (tick no_vertex) k ∙ get_or-map tick vs i no_vertex
 
 -- both runs have room, or one is too short
 both_room : (n : ℕ) (xs ys : List ℤ) → room_in n xs ys ≡ true → (n ≤ length xs) × (n ≤ length ys)
-both_room n xs ys e = let p = both (leb n (length xs)) (leb n (length ys)) e in (leb-true n _ p.0, leb-true n _ p.1)
+both_room n xs ys e = let p = and_parts (leb n (length xs)) (leb n (length ys)) e in (leb-true n _ p.0, leb-true n _ p.1)
 
 pub roomy : (n : ℕ) (xs ys : List ℤ) → n ≤ length xs → n ≤ length ys → room_in n xs ys ≡ true
-roomy n xs ys h k = and (le-leb n (length xs) h) (le-leb n (length ys) k)
+roomy n xs ys h k = and_from _ _ (le-leb n (length xs) h) (le-leb n (length ys) k)
 
 pub too_short : (n : ℕ) (xs ys : List ℤ) → (length xs < n) ⊎ ((n ≤ length xs) × (length ys < n)) → room_in n xs ys ≡ false
 too_short n xs ys (inl h) = rw (lt-leb n (length xs) h)

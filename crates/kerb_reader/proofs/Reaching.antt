@@ -9,9 +9,9 @@ use lib.Dec.{T, leb, eqb, lit≤}
 use lib.ListN.{length, length-replicate}
 use lib.Seq.{sets, length-sets}
 use lib.Ieee.{Float, binary64, of_bits}
+use Rattle.std.proofs.lemmas.Bool.{and_parts}
 use Rattle.number.specs.Read.{Read, got, refused, Reader, pick, return, many, into}
 use Rattle.number.proofs.Codec.{chosen}
-use Rattle.number.proofs.FieldCodec.{both}
 use Rattle.number.proofs.Locality.{Agree, Local, wider, after, tested}
 use Rattle.metres.specs.Bytes.{little_endian}
 use Rattle.metres.specs.Tick.{metres_most, size_at_most, Sized, VertexWithin}
@@ -110,7 +110,7 @@ line_local : Local read_line 8004 SurveyWithin
 unfolding read_line
 line_local =
     after 4 8000 (header_local 4 _) (λ n N.
-    let b = both (leb 2 n) (leb n vertices_most) N in
+    let b = and_parts (leb 2 n) (leb n vertices_most) N in
     let most : n ≤ vertices_most = leb-true n vertices_most b.1 in
     after 8000 0 (vertices_local n most) (λ vs W.
     given _ (record { size = W.1; least = omega (arith, leb-true 2 n b.0); most = most; first = W.0 0; others = W.0 })))

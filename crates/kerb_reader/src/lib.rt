@@ -32,6 +32,7 @@ pub struct Survey {
 }
 
 // Why a kerb is turned down: by a field of its geometry, or since the lent runs have no room for its vertices.
+// Kept: the new form is no plainer: an Option of a refusal would say None where there is one, for want of room.
 #[derive(Clone, Copy, PartialEq, Eq)]
 pub enum KerbRefusal {
     Field(Refusal),

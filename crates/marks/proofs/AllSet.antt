@@ -1,7 +1,7 @@
 -- All bits of the first points are set just where each of them is, and just where the mark ends in so many ones.
 use Prim.Native.Nat.{ℕ, zero, suc, ◌+◌, ◌-◌, ◌^◌, ◌≤◌, ◌<◌}
 use mathlib.Core.Path.{◌≡◌, refl, sym, ◌∙◌, subst}
-use mathlib.Core.Bool.{Bool, true, false, ◌&&◌}
+use mathlib.Core.Bool.{true}
 use mathlib.Core.Logic.{⊎_elim}
 use native.Mathlib.Nat as NatL
 use native.Mathlib.Omega.{arith}
@@ -10,20 +10,16 @@ use lib.Dec.{leb}
 use lib.Count.{count_trailing_zeros}
 use mir.Syntax.{w32}
 use Rattle.std.specs.Int.{bit_at, trailing_ones}
-use Rattle.std.proofs.lemmas.Bool.{cases_lt, false_from_ne_true}
+use Rattle.std.proofs.lemmas.Bool.{and_parts, cases_lt, false_from_ne_true}
 use Rattle.std.proofs.lemmas.Nat.Bits.{bit_at-trailing_ones, bit_at_ones}
 use Rattle.marks.specs.Marks.{mark_width, has_bit, all_set}
-
-both : (a b : Bool) → (a && b) ≡ true → (a ≡ true) × (b ≡ true)
-both true b e = (refl, e)
-both false b e = absurd (let z : ◌≡◌ {A = ℕ} 0 1 = cc in omega arith)
 
 module _ (m : ℕ) where
   pub each_set : (n : ℕ) → all_set n m ≡ true → (p : ℕ) → p < n → has_bit p m ≡ true
   unfolding all_set
   each_set zero e p h = absurd (NatL.not-suc-le-zero h)
   each_set (suc n) e p h =
-      let b = both (all_set n m) (has_bit n m) e in
+      let b = and_parts (all_set n m) (has_bit n m) e in
       ⊎_elim (λ (q : p ≡ n). subst (λ (x : ℕ). has_bit x m ≡ true) (sym q) b.1) (λ (k : p < n). each_set n b.0 p k) (NatL.eq-or-lt_of_le (NatL.le_of_suc-le-suc h))
 
   pub all_set_lem : (n : ℕ) → ((p : ℕ) → p < n → has_bit p m ≡ true) → all_set n m ≡ true

@@ -15,6 +15,7 @@ use Rattle.std.specs.Prelude.{bit_or}
 use Rattle.std.proofs.lemmas.Bool.{cases_eq}
 use Rattle.std.proofs.lemmas.Nat.Bits.{bit_at_set_same, bit_at_set_other, bit_at-lt, same_from_bits}
 use Rattle.number.specs.Read.{pick}
+use Rattle.number.proofs.GroupLaws.{pick_by}
 use Rattle.marks.specs.Marks.{mark_width, has_bit, with_bit}
 
 -- the place of bit p, split off the place of a higher one
@@ -42,14 +43,9 @@ below_stays q k m =
     let d : (m + 2 ^ q * (2 * 2 ^ k)) / 2 ^ q ≡ m / 2 ^ q + 2 * 2 ^ k = NatL.add-mul-div_left m (2 * 2 ^ k) (pow_pos q) in
     rw (e, d) (omega arith)
 
--- of a mark with bit p set, by what it was
-by_bit : {A : Type 0} (P : A → Type 0) (t : Bool) (a b : A) → (t ≡ true → P a) → (t ≡ false → P b) → P (pick t a b)
-by_bit P true a b f g = f refl
-by_bit P false a b f g = g refl
-
 module _ (p m : ℕ) where
   above_same : (k : ℕ) → with_bit p m / 2 ^ (p + 1 + k) ≡ m / 2 ^ (p + 1 + k)
-  above_same k = by_bit (λ (x : ℕ). x / 2 ^ (p + 1 + k) ≡ m / 2 ^ (p + 1 + k)) (has_bit p m) m (m + 2 ^ p) (λ e. refl) (λ e. above_stays p k m (bit_clear p m e))
+  above_same k = pick_by (λ (x : ℕ). x / 2 ^ (p + 1 + k) ≡ m / 2 ^ (p + 1 + k)) (has_bit p m) (λ e. refl) (λ e. above_stays p k m (bit_clear p m e))
 
   -- the bits from any number above p on stay
   pub above_bits : (n : ℕ) → p < n → with_bit p m / 2 ^ n ≡ m / 2 ^ n
@@ -67,7 +63,7 @@ module _ (p m : ℕ) where
   -- its own bit is set, every other is as it was
   pub own_bit : has_bit p (with_bit p m) ≡ true
   own_bit =
-      by_bit (λ (x : ℕ). has_bit p x ≡ true) (has_bit p m) m (m + 2 ^ p) (λ e. e)
+      pick_by (λ (x : ℕ). has_bit p x ≡ true) (has_bit p m) (λ e. e)
       (λ e. eq-eqb ((m + 2 ^ p) / 2 ^ p % 2) 1 (omega (arith, bit_clear p m e, NatL.add-div_right m (pow_pos p))))
 
   higher_bit : (k : ℕ) → has_bit (p + 1 + k) (with_bit p m) ≡ has_bit (p + 1 + k) m
@@ -75,7 +71,7 @@ module _ (p m : ℕ) where
 
 lower_bit : (q k m : ℕ) → has_bit q (with_bit (q + 1 + k) m) ≡ has_bit q m
 lower_bit q k m =
-    by_bit (λ (x : ℕ). has_bit q x ≡ has_bit q m) (has_bit (q + 1 + k) m) m (m + 2 ^ (q + 1 + k)) (λ e. refl)
+    pick_by (λ (x : ℕ). has_bit q x ≡ has_bit q m) (has_bit (q + 1 + k) m) (λ e. refl)
     (λ e. ap (λ (x : ℕ). eqb x 1) (below_stays q k m))
 
 pub other_bit : (p q m : ℕ) → (p ≡ q → ⊥) → has_bit q (with_bit p m) ≡ has_bit q m

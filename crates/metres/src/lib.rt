@@ -77,7 +77,7 @@ fn nearest_whole(p: f64) -> i64
     if exponent < 1013 {
         return 0;
     }
-    // Kept: the new form is no plainer: i64 has no From of a u64, and try_from would answer an error that cannot come.
+    // Kept: the new form is no plainer: i64 has no From of a u64, and `cast_signed` says no more than the cast.
     let digits = (LEADING + bits % LEADING) as i64;
     let unit = (1u64 << (1075 - exponent)) as i64;
     if bits < SIGN {

@@ -2,11 +2,12 @@
 use Prim.Native.Nat.{ℕ, ◌*◌, ◌<◌, ◌≤◌, ◌^◌}
 use mathlib.Core.Path.{◌≡◌, refl, sym}
 use mathlib.Core.List.{List}
-use mathlib.Core.Bool.{Bool, true, false, ◌&&◌}
+use mathlib.Core.Bool.{Bool, true}
 use native.Mathlib.Omega.{arith}
 use lib.IntN.{ℤ, pos, negsuc, nat_abs}
 use lib.Dec.{leb}
 use borrow.Author.Tests.{leb-true}
+use Rattle.std.proofs.lemmas.Bool.{and_parts}
 use Rattle.number.specs.Read.{Reader}
 use Rattle.number.specs.Number.{write_number}
 use Rattle.number.specs.Signed.{field_of, signed_of, write_signed}
@@ -23,14 +24,6 @@ recast there back c = record {
   back = λ s at a e bs h. let k = c.back s at a e bs h in (there a k.0, k.1, k.2);
   bytes = λ a o. c.bytes a (back a o);
 }
-
-pub both : (a b : Bool) → (a && b) ≡ true → (a ≡ true) × (b ≡ true)
-both true b e = (refl, e)
-both false true e = (e, refl)
-both false false e = (e, e)
-
-pub and : {a b : Bool} → a ≡ true → b ≡ true → (a && b) ≡ true
-and p q = rw (p, q)
 
 -- a field whose test lets only numbers of 32 bits through
 pub field_codec : (fault : ℕ) (allowed : ℕ → Bool) → ((v : ℕ) → allowed v ≡ true → v < 2 ^ 32) → Codec (field fault allowed) write_number (λ v. allowed v ≡ true)
@@ -53,7 +46,7 @@ signed_field_codec fault allowed small =
 
 -- what the tests come to
 pub within_most : (r : Range) (v : ℕ) → within r v ≡ true → v ≤ r.most
-within_most r v t = leb-true v r.most (both (leb r.least v) (leb v r.most) t).1
+within_most r v t = leb-true v r.most (and_parts (leb r.least v) (leb v r.most) t).1
 
 pub field_size : (z : ℤ) → field_of z ≤ 2 * nat_abs z
 field_size (pos n) = omega arith

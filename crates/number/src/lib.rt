@@ -120,6 +120,7 @@ pub fn is_within(range: Range, v: u32) -> bool
 fn signed_of(x: u32) -> i32
     ensures { result ≡ signed_of x }
 {
+    // Kept: the new form is no plainer: i32 has no From of a u32, and try_from would answer an error that cannot come.
     let h = (x / 2) as i32;
     if x % 2 == 0 { h } else { -1 - h }
 }
@@ -169,7 +170,7 @@ pub fn write(run: &mut [u8], at: usize, x: u32) -> usize
     requires { Room (write_number x) at (length run.old) }
     ensures { (result ≡ at + length (write_number x)) × (run.new ≡ sets run.old at (write_number x)) }
 {
-    // Kept: the new form is no plainer: how many groups there are is known only once they are written, so no iterator has the steps.
+    // Kept: the new form is no plainer: how many groups there are is known only once they are written, and `successors` would want a test of the last group besides. The casts: u8 has no From of a u32.
     let mut i = at;
     let mut y = x;
     while 128 <= y {

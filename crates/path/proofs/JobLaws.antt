@@ -7,11 +7,11 @@ use native.Mathlib.Omega.{arith}
 use borrow.Author.Tests.{leb-true, eq-eqb, ne_eqb, eqb-true}
 use lib.Dec.{leb, eqb}
 use lib.ListN.{length, take, get_or, length-take}
+use Rattle.std.proofs.lemmas.Bool.{and_parts}
 use Rattle.std.specs.Prelude.{Ok, Err}
 use lib.IntN.{pos, nat_abs, ◌*ℤ◌}
 use Rattle.exact.specs.Size.{Within}
 use Rattle.number.specs.Read.{pick}
-use Rattle.number.proofs.FieldCodec.{both}
 use Rattle.plane.specs.Length.{heading_length, Near}
 use Rattle.plane.proofs.Lengths.{near_of}
 use Rattle.job.specs.declared.Element.{Element}
@@ -41,7 +41,7 @@ unfolding elements_fault
 accepted j n h =
     let s = sound j h in
     let es = take j.count j.elements in
-    let step = both (leb 100 j.step) (leb j.step 20000) s.step in
+    let step = and_parts (leb 100 j.step) (leb j.step 20000) s.step in
     record {
       least = leb-true 100 j.step step.0;
       most = leb-true j.step 20000 step.1;
@@ -56,8 +56,8 @@ accepted j n h =
 pub start_sound : (s : Start) → start_allowed s ≡ true → Within 100000000 s.x × Within 100000000 s.y × Near (start_station s).heading heading_length (pos 2 *ℤ heading_length)
 unfolding heading_allowed
 start_sound s h =
-    let a = both (coordinate_allowed s.x) (coordinate_allowed s.y && heading_allowed s.gx s.gy) h in
-    let b = both (coordinate_allowed s.y) (heading_allowed s.gx s.gy) a.1 in
+    let a = and_parts (coordinate_allowed s.x) (coordinate_allowed s.y && heading_allowed s.gx s.gy) h in
+    let b = and_parts (coordinate_allowed s.y) (heading_allowed s.gx s.gy) a.1 in
     (record { size = leb-true (nat_abs s.x) 100000000 a.0 }, record { size = leb-true (nat_abs s.y) 100000000 b.0 }, near_of (start_station s).heading heading_length b.1)
 
 -- one station more than steps
@@ -71,6 +71,10 @@ unfolding stations
 stations_count j =
     let es = take j.count j.elements in
     omega (arith, stations_length (start_station j.start) (steps_on j.step es), total_count j.step 0 es)
+
+-- the stations that runs are tested for before a path is laid are the job's
+pub counted : (j : Job) (n : ℕ) → n ≡ step_total j.step 0 (take j.count j.elements) → n + 1 ≡ length (stations j)
+counted j n e = ap (λ (m : ℕ). m + 1) e ∙ sym (stations_count j)
 
 -- the answers
 pub fault_answered : (j : Job) (r : PathRuns) (f : Fault) → number_of f ≡ judge j → (judge j ≡ 0 → ⊥) → LayEnsures j r (Err f) r

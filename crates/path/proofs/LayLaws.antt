@@ -11,10 +11,11 @@ use lib.Dec.{leb, ltb}
 use lib.ListN.{length, get_or, length-set}
 use lib.Seq.{sets}
 use lib.IntN.{pos, ◌*ℤ◌}
+use Rattle.std.proofs.lemmas.Bool.{and_parts}
+use Rattle.std.proofs.lemmas.List.{nil_from_length}
 use Rattle.exact.specs.Size.{Within}
 use Rattle.exact.proofs.Sizes.{within_more}
 use Rattle.number.specs.Read.{pick}
-use Rattle.number.proofs.FieldCodec.{both}
 use Rattle.plane.specs.Length.{heading_length, Near}
 use Rattle.job.specs.declared.Element.{Element}
 use Rattle.job.specs.Allowed.{length_allowed, curve_allowed, element_allowed}
@@ -129,7 +130,7 @@ after_cases step e c P yes' no' = by (ltb (c.before + s) e.length) refl
 
 -- an element that was let pass is at least a tick long
 element_length : (x : Element) → element_allowed x ≡ true → 1 ≤ x.length
-element_length x a = leb-true 1 x.length (both (leb 1 x.length) (leb x.length 40000000) (both (length_allowed x.length) (curve_allowed x.curve) a).0).0
+element_length x a = leb-true 1 x.length (and_parts (leb 1 x.length) (leb x.length 40000000) (and_parts (length_allowed x.length) (curve_allowed x.curve) a).0).0
 
 -- one step more
 module _ {step steps : ℕ} {es : List Element} {whole start : PathRuns} {c : PathCursor} {i : ℕ} {r : PathRuns} (u : Usable step steps es) (l : Laying step steps es whole start c i r) (more : i < steps) where
@@ -157,7 +158,7 @@ module _ {step steps : ℕ} {es : List Element} {whole start : PathRuns} {c : Pa
         inside = l.inside on_path;
         place = record { x = within_more b l.place.0; y = within_more b l.place.1 };
         heading = l.heading;
-        curve = (both (length_allowed e.length) (curve_allowed e.curve) (u.all c.element on_path)).1;
+        curve = (and_parts (length_allowed e.length) (curve_allowed e.curve) (u.all c.element on_path)).1;
         least = omega (arith, u.least);
         most = u.most;
         element = omega (arith, on_path, u.places);
@@ -215,15 +216,11 @@ laying_start {step} {steps} {es} p r u h w = record {
 }
 
 -- after the last
-empty : {A : Type 0} (xs : List A) → length xs ≡ 0 → xs ≡ []
-empty [] e = refl
-empty (x ∷ xs) e = absurd (omega arith)
-
 nothing_left : (k : ℕ) (p : Station) (r : PathRuns) → written_at k (stations_from p []) r ≡ r
 unfolding stations_from
 nothing_left k p r = refl
 
 pub laying_end : {step steps : ℕ} {es : List Element} {whole start : PathRuns} {c : PathCursor} {i : ℕ} {r : PathRuns} → Laying step steps es whole start c i r → steps ≤ i → r ≡ whole
 laying_end {step} {steps} {es} {whole} {start} {c} {i} {r} l h =
-    let none : steps_left step es c ≡ [] = empty (steps_left step es c) (omega (arith, l.left)) in
+    let none : steps_left step es c ≡ [] = nil_from_length (steps_left step es c) (omega (arith, l.left)) in
     sym (nothing_left (i + 1) c.station r) ∙ ap (λ (ss : List Step). written_at (i + 1) (stations_from c.station ss) r) (sym none) ∙ l.same

@@ -9,9 +9,9 @@ use borrow.Author.Tests.{leb-true}
 use lib.Dec.{leb}
 use lib.ListN.{length, take, get_or}
 use lib.IntN.{pos, ◌*ℤ◌}
+use Rattle.std.proofs.lemmas.Bool.{and_parts}
 use Rattle.exact.specs.Size.{Within}
 use Rattle.exact.proofs.Sizes.{within_more}
-use Rattle.number.proofs.FieldCodec.{both}
 use Rattle.plane.specs.Length.{heading_length, Near}
 use Rattle.job.specs.declared.Curve.{Curve}
 use Rattle.job.specs.declared.Element.{Element}
@@ -70,7 +70,7 @@ unfolding fault_of steps_on
 steps_passable step t [] l m h = none
 steps_passable step t (e ∷ es) l m h =
     let f = first_none (element_fault t e) (fault_of element_fault (tally step) total_fault (tally step t e) es) h in
-    let a = both (length_allowed e.length) (curve_allowed e.curve) (or_none (element_allowed e) 7 0 f.0).0 in
+    let a = and_parts (length_allowed e.length) (curve_allowed e.curve) (or_none (element_allowed e) 7 0 f.0).0 in
     append_passable (cuts_passable e.curve a.1 step l m e.length) (steps_passable step (tally step t e) es l m f.1)
 
 -- stations from p on, whose coordinates are within b
@@ -105,7 +105,7 @@ sound_path j h =
     let s = sound j h in
     let es = take j.count j.elements in
     let ss = steps_on j.step es in
-    let step = both (leb 100 j.step) (leb j.step 20000) s.step in
+    let step = and_parts (leb 100 j.step) (leb j.step 20000) s.step in
     let least = leb-true 100 j.step step.0 in
     let most = leb-true j.step 20000 step.1 in
     let start = start_sound j.start s.start in

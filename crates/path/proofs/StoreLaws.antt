@@ -10,8 +10,8 @@ use lib.IntN.{ℤ, pos, negsuc}
 use mir.Syntax.{w32}
 use mir.Val.{SFits, to_z, of_z}
 use mir.Facts.{to_z-of_z}
+use Rattle.std.proofs.lemmas.Bool.{and_parts}
 use Rattle.exact.specs.Size.{Within}
-use Rattle.number.proofs.FieldCodec.{both}
 use Rattle.path.specs.Laying.{PathRuns, room_for}
 
 -- a coordinate fits an entry of 32 bits, as the machine has it, and is read back as it was
@@ -32,7 +32,7 @@ room n r e =
     let b = leb n (length r.ys) in
     let c = leb n (length r.gxs) in
     let d = leb n (length r.gys) in
-    let p = both a (b && (c && d)) e in
-    let q = both b (c && d) p.1 in
-    let s = both c d q.1 in
+    let p = and_parts a (b && (c && d)) e in
+    let q = and_parts b (c && d) p.1 in
+    let s = and_parts c d q.1 in
     (leb-true n _ p.0, leb-true n _ q.0, leb-true n _ s.0, leb-true n _ s.1)

@@ -20,6 +20,7 @@ pub struct Station {
 }
 
 // A path in four lent runs, one entry a station: where each lies, and the heading there.
+// Kept: the C interface needs it: it hands over the four runs one by one.
 #[derive(Clone, Copy)]
 pub struct Path<'a> {
     pub xs: &'a [i32],
@@ -29,6 +30,7 @@ pub struct Path<'a> {
 }
 
 // Four lent runs that a path is laid into.
+// Kept: four runs, for the reason given at `Path`.
 #[derive(Drop)]
 pub struct PathRoom<'a> {
     pub xs: &'a mut [i32],

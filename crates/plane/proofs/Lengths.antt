@@ -7,6 +7,7 @@ use native.Mathlib.Omega.{arith}
 use lib.Dec.{T, leb, le→leb, leb→le}
 use lib.IntN.{ℤ, pos, negsuc, nat_abs, neg_ℤ, ◌+ℤ◌, ◌-ℤ◌, ◌*ℤ◌}
 use lib.Signed.{◌≤ℤ◌, le_z}
+use Rattle.std.proofs.lemmas.Bool.{and_from}
 use Rattle.exact.specs.Size.{Within}
 use Rattle.exact.proofs.Polynomial.{◌⊕◌, ◌⊖◌, ◌⊗◌, neg, lit, var, and_left, and_right}
 use Rattle.exact.proofs.Order.{by_contradiction, of_true}
@@ -29,12 +30,9 @@ pub is_true : {b : Bool} → T b → b ≡ true
 is_true {b = true} t = refl
 is_true {b = false} t = absurd t
 
-both : (a b : Bool) → a ≡ true → b ≡ true → (a && b) ≡ true
-both a b p q = rw (p, q)
-
 pub of_near : (v : Vec2) (k : ℤ) → Near v k (pos 2 *ℤ k) → has_length v k ≡ true
 unfolding has_length
-of_near v k n = both (le_z (k *ℤ k -ℤ pos 2 *ℤ k) (norm_sq v)) (le_z (norm_sq v) (k *ℤ k +ℤ pos 2 *ℤ k)) (is_true n.low.le) (is_true n.high.le)
+of_near v k n = and_from (le_z (k *ℤ k -ℤ pos 2 *ℤ k) (norm_sq v)) (le_z (norm_sq v) (k *ℤ k +ℤ pos 2 *ℤ k)) (is_true n.low.le) (is_true n.high.le)
 
 -- no coordinate is larger than K: x² ≤ K² + 2K < (K + 1)²
 coordinate-≤ : (x y k : ℤ) → pos 0 ≤ℤ k → (x *ℤ x +ℤ y *ℤ y) ≤ℤ (k *ℤ k +ℤ pos 2 *ℤ k) → x ≤ℤ k
@@ -86,7 +84,7 @@ unfolding in_box
 short_in_box v k n h =
     let k0 = le {ρ = k ∷ []} (lit 0) (var 0) (hyp (lit 5000) (var 0) n.least ⊞ num 5000) tt in
     let s = coordinates v.x v.y k k0 h in
-    both (leb (nat_abs v.x) (nat_abs k)) (leb (nat_abs v.y) (nat_abs k)) (within_self v.x k k0 s.0 s.1) (within_self v.y k k0 s.2 s.3)
+    and_from (leb (nat_abs v.x) (nat_abs k)) (leb (nat_abs v.y) (nat_abs k)) (within_self v.x k k0 s.0 s.1) (within_self v.y k k0 s.2 s.3)
 
 pub outside_box : (v : Vec2) (k : ℤ) → Nominal k → in_box v k ≡ false → has_length v k ≡ false
 outside_box v k n e = by (has_length v k) refl
@@ -106,7 +104,7 @@ module _ (n s : ℤ) (m : ℕ) where
       let w : Within m (n -ℤ s) = record { size = h } in
       let low = le {ρ = ρ} (var 1 ⊖ var 2) (var 0) (hyp (neg (var 2)) (var 0 ⊖ var 1) (≥-size w)) tt in
       let high = le {ρ = ρ} (var 0) (var 1 ⊕ var 2) (hyp (var 0 ⊖ var 1) (var 2) (≤-size w)) tt in
-      both (le_z (s -ℤ pos m) n) (le_z n (s +ℤ pos m)) (is_true low.le) (is_true high.le)
+      and_from (le_z (s -ℤ pos m) n) (le_z n (s +ℤ pos m)) (is_true low.le) (is_true high.le)
 
   to_size : orders ≡ true → nat_abs (n -ℤ s) ≤ m
   to_size e =

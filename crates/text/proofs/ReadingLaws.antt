@@ -2,20 +2,17 @@
 use Prim.Native.Nat.{ℕ, zero, suc, ◌+◌, ◌-◌, ◌*◌, ◌/◌, ◌%◌, ◌<◌, ◌≤◌}
 use mathlib.Core.Path.{◌≡◌, refl, ◌∙◌, ap}
 use mathlib.Core.List.{List, [], ◌∷◌, ◌++◌}
-use mathlib.Core.Bool.{Bool, true, false, ◌&&◌}
+use mathlib.Core.Bool.{Bool, true, false}
 use native.Mathlib.Omega.{arith}
 use native.Mathlib.Numerals.{add-one}
 use lib.ListN.{length, drop, get_or, length-append, drop_of_length-le}
 use lib.Seq.{drop-cons}
 use borrow.Author.Tests.{le-leb, lt-leb}
+use Rattle.std.proofs.lemmas.Bool.{and_parts}
 use Rattle.text.specs.Decimal.{digit, decimal}
 use Rattle.text.specs.Reading.{is_digit, all_digits, value_after, largest, read_if, read_decimal, RoundTrip}
 use Rattle.std.proofs.Common.{Option, Some, None}
 use Rattle.text.proofs.DecimalLaws.{either, decimal_one, decimal_more}
-
-both : (a b : Bool) → (a && b) ≡ true → (a ≡ true) × (b ≡ true)
-both true b h = (refl, h)
-both false b h = absurd (let z : ◌≡◌ {A = ℕ} 0 1 = cc in omega arith)
 
 -- what is left of a text, after digits whose value is v
 abbrev rest_of : ℕ → List ℕ → Option ℕ
@@ -95,7 +92,7 @@ is_digit_lem d h = rw (le-leb 48 (digit d) (omega arith), le-leb (digit d) 57 (o
 all_last : (s : List ℕ) (b : ℕ) → all_digits s ≡ true → is_digit b ≡ true → all_digits (s ++ (b ∷ [])) ≡ true
 unfolding all_digits
 all_last [] b h d = rw d
-all_last (a ∷ s) b h d = let t = both (is_digit a) (all_digits s) h in rw t.0 (all_last s b t.1 d)
+all_last (a ∷ s) b h d = let t = and_parts (is_digit a) (all_digits s) h in rw t.0 (all_last s b t.1 d)
 
 value_last : (v : ℕ) (s : List ℕ) (b : ℕ) → value_after v (s ++ (b ∷ [])) ≡ value_after v s * 10 + (b - 48)
 unfolding value_after

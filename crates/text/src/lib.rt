@@ -19,13 +19,14 @@ pub fn put_bytes(run: &mut [u8], at: usize, bytes: &[u8]) -> usize
 }
 
 // Writes the last `count` digits of a number, zeros in front included. They are found from the last to the first.
-// Kept: tried, and the proof did not close: of `write!` into a lent slice no clause says which bytes it wrote or how much room it left.
+// Kept: tried, and the proof did not close: of `write!` into a lent slice no clause says which bytes it wrote.
 fn put_digits(run: &mut [u8], at: usize, count: usize, n: u64) -> usize
     requires { Room (digits count n) at (length run.old) }
     ensures { (result ≡ at + length (digits count n)) × (run.new ≡ sets run.old at (digits count n)) }
 {
     let mut y = n;
     for place in (at..at + count).rev() {
+        // Kept: the new form is no plainer: u8 has no From of a u64, and try_from would answer an error that cannot come.
         run[place] = b'0' + (y % 10) as u8;
         y /= 10;
     }

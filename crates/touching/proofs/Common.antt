@@ -6,13 +6,14 @@ use mathlib.Core.Bool.{true, ◌&&◌}
 use mathlib.Core.Logic.{◌⊎◌, inl, inr, ⊎_elim}
 use lib.IntN.{ℤ, pos, ◌-ℤ◌, ◌*ℤ◌, *ℤ_comm}
 use lib.Signed.{le_z_yes}
+use Rattle.std.proofs.lemmas.Bool.{and_parts}
 use Rattle.exact.proofs.Polynomial.{Expr, ◌⊕◌, ◌⊖◌, ◌⊗◌, neg, lit, var, eval, equal_of_difference}
 use Rattle.exact.proofs.Certificate.{◌⊞◌, sq, eqn, le, positive_mul}
 use Rattle.exact.proofs.Equations.{Zero, ◌⊹◌, multiple, equal}
 use Rattle.plane.specs.declared.Vec2.{Vec2}
 use Rattle.plane.specs.Vector.{dot, minus, right_normal}
 use Rattle.touching.specs.Touch.{overlap, touches, Part, Fractions, Meeting, TouchRule}
-use Rattle.touching.proofs.Shadows.{point, point_e, Shared, both_true, ranges_meet_lem, shared}
+use Rattle.touching.proofs.Shadows.{point, point_e, Shared, ranges_meet_lem, shared}
 use Rattle.touching.proofs.Products.{square_zero, zero_product, cancel, part_times}
 
 -- vectors as polynomials
@@ -183,8 +184,8 @@ module _ (a b c d : Vec2) where
   pub meeting_of : touches a b c d ≡ true → Meeting a b c d
   unfolding touches
   meeting_of e =
-      let h = both_true (overlap (right_normal (minus b a)) a b c d && overlap (right_normal (minus d c)) a b c d) (overlap (minus c a) a b c d) e in
-      let k = both_true (overlap (right_normal (minus b a)) a b c d) (overlap (right_normal (minus d c)) a b c d) h.0 in
+      let h = and_parts (overlap (right_normal (minus b a)) a b c d && overlap (right_normal (minus d c)) a b c d) (overlap (minus c a) a b c d) e in
+      let k = and_parts (overlap (right_normal (minus b a)) a b c d) (overlap (right_normal (minus d c)) a b c d) h.0 in
       found (seen (right_normal (minus b a)) k.0) (seen (right_normal (minus d c)) k.1) (seen (minus c a) h.1)
 
 pub rule : TouchRule

@@ -1,12 +1,13 @@
 -- Two segments on a line, from a to b and from c to d: neither lies beyond the other exactly where they share a point.
 use mathlib.Core.Path.{◌≡◌, refl, sym}
 use mathlib.Core.List.{List, [], ◌∷◌}
-use mathlib.Core.Bool.{Bool, true, false, ◌&&◌, ◌||◌, false≢true}
+use mathlib.Core.Bool.{Bool, true, false, ◌||◌}
 use mathlib.Core.Logic.{⊎_elim}
 use Prim.Native.Nat.{ℕ, zero-le}
 use lib.Dec.{T, leb}
 use lib.IntN.{ℤ, pos, ◌+ℤ◌, ◌-ℤ◌, ◌*ℤ◌}
 use lib.Signed.{◌≤ℤ◌, le_z, le_z_yes}
+use Rattle.std.proofs.lemmas.Bool.{and_parts}
 use Rattle.exact.proofs.Polynomial.{Expr, ◌⊕◌, ◌⊖◌, ◌⊗◌, lit, var, eval, ring, SamePoly}
 use Rattle.exact.proofs.Order.{≤ℤ-antisym, total, le_z_true, le_z_false, pos-≤}
 use Rattle.exact.proofs.Certificate.{NonNeg, ◌⊞◌, ◌⊠◌, ◌·◌, hyp, eqn, le, never}
@@ -25,10 +26,6 @@ unless_none false true u v f = refl
 unless_none false false true v f = refl
 unless_none false false false true f = refl
 unless_none false false false false f = absurd (f refl refl refl refl)
-
-pub both_true : (s t : Bool) → (s && t) ≡ true → (s ≡ true) × (t ≡ true)
-both_true true t e = (refl, e)
-both_true false t e = absurd (false≢true e)
 
 -- n times the point that is p/n of the way from a to b
 abbrev pub point : ℤ → ℤ → ℤ → ℤ → ℤ
@@ -155,7 +152,7 @@ module _ (a b c d : ℤ) (r : Ordered a b c d) (s : Ordered c d a b) where
 pub shared : (a b c d : ℤ) → ranges_meet a b c d ≡ true → Shared a b c d
 unfolding ranges_meet
 shared a b c d e =
-    let h = both_true (some_at_most a b c d) (some_at_most c d a b) e in
+    let h = and_parts (some_at_most a b c d) (some_at_most c d a b) e in
     let r = ordered a b c d h.0 in
     let s = ordered c d a b h.1 in
     ⊎_elim (level a b c d r s) (apart a b c d r s) (total _ (pos 0))

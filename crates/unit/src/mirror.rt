@@ -29,7 +29,7 @@ fn with_sign(n: u64, a: i64, b: i64) -> i64
     requires { SizeOfProduct n a b }
     ensures { result ≡ a *ℤ b }
 {
-    // Kept: the new form is no plainer: i64 has no From of a u64, and try_from would answer an error that cannot come.
+    // Kept: a rule of the project needs it: the search for multiplications (02, N2) follows casts, and no method.
     let positive = n as i64;
     if (a < 0) == (b < 0) {
         return positive;

@@ -53,7 +53,7 @@ overflow_sub-r c = simp (to_z-of_z, c.ranges.n, c.ranges.d, fits_r c.before) (fi
 
 module _ (c : Then-d-r) where
   abbrev s : Start
-  s = c.before.before
+  s = (goal.at.Then-d-r c).Start
 
   away : quot_z (n s) (d s) -ℤ pos 1 ≡ nearest_z (n s) (d s)
   away =
@@ -61,14 +61,14 @@ module _ (c : Then-d-r) where
       (simp (to_z-of_z, s.ranges.n, s.ranges.d, fits_r s, fits_sum c.before, fits_negation c.before) at c.if-d-r.true)
 
 pub overflow_sub-result : goal.overflow_sub-result
-overflow_sub-result c = let s = c.before.before in simp (to_z-of_z, s.ranges.n, s.ranges.d, fits_q s) (fits_nearest s _ (away c))
+overflow_sub-result c = let s = (goal.at.overflow_sub-result c).Start in simp (to_z-of_z, s.ranges.n, s.ranges.d, fits_q s) (fits_nearest s _ (away c))
 
 pub returns-then-d-r : goal.returns-then-d-r
-returns-then-d-r c = let s = c.before.before in simp (to_z-of_z, s.ranges.n, s.ranges.d, fits_q s, fits_nearest s _ (away c)) (away c)
+returns-then-d-r c = let s = (goal.at.returns-then-d-r c).Start in simp (to_z-of_z, s.ranges.n, s.ranges.d, fits_q s, fits_nearest s _ (away c)) (away c)
 
 pub returns-else-d-r : goal.returns-else-d-r
 returns-else-d-r c =
-    let s = c.before.before in
+    let s = (goal.at.returns-else-d-r c).Start in
     simp (to_z-of_z, s.ranges.n, s.ranges.d, fits_q s)
     (below_stays (n s) (d s) s.requires.positive (below c.before)
     (simp (to_z-of_z, s.ranges.n, s.ranges.d, fits_r s, fits_sum c.before, fits_negation c.before) at c.if-d-r.false))
@@ -84,21 +84,21 @@ module _ (c : Else-r-lt0) where
 pub overflow_sub-d : goal.overflow_sub-d
 overflow_sub-d c = simp (to_z-of_z, c.ranges.n, c.ranges.d, fits_r c.before) (fits_difference c)
 
-next : (c : Then-d-r-2) → let s = c.before.before in quot_z (n s) (d s) +ℤ pos 1 ≡ nearest_z (n s) (d s)
+next : (c : Then-d-r-2) → let s = (goal.at.Then-d-r-2 c).Start in quot_z (n s) (d s) +ℤ pos 1 ≡ nearest_z (n s) (d s)
 next c =
-    let s = c.before.before in
+    let s = (goal.at.Then-d-r-2 c).Start in
     above_away (n s) (d s) s.requires.positive (above c.before)
     (simp (to_z-of_z, s.ranges.n, s.ranges.d, fits_r s, fits_difference c.before) at c.if-d-r-2.true)
 
 pub overflow_add-result : goal.overflow_add-result
-overflow_add-result c = let s = c.before.before in simp (to_z-of_z, s.ranges.n, s.ranges.d, fits_q s) (fits_nearest s _ (next c))
+overflow_add-result c = let s = (goal.at.overflow_add-result c).Start in simp (to_z-of_z, s.ranges.n, s.ranges.d, fits_q s) (fits_nearest s _ (next c))
 
 pub returns-then-d-r-2 : goal.returns-then-d-r-2
-returns-then-d-r-2 c = let s = c.before.before in simp (to_z-of_z, s.ranges.n, s.ranges.d, fits_q s, fits_nearest s _ (next c)) (next c)
+returns-then-d-r-2 c = let s = (goal.at.returns-then-d-r-2 c).Start in simp (to_z-of_z, s.ranges.n, s.ranges.d, fits_q s, fits_nearest s _ (next c)) (next c)
 
 pub returns-else-d-r-2 : goal.returns-else-d-r-2
 returns-else-d-r-2 c =
-    let s = c.before.before in
+    let s = (goal.at.returns-else-d-r-2 c).Start in
     simp (to_z-of_z, s.ranges.n, s.ranges.d, fits_q s)
     (above_stays (n s) (d s) s.requires.positive (above c.before)
     (simp (to_z-of_z, s.ranges.n, s.ranges.d, fits_r s, fits_difference c.before) at c.if-d-r-2.false))

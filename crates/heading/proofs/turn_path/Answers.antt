@@ -8,9 +8,9 @@ use lib.IntN.{pos}
 use mir.Syntax.{w32, w64}
 use mir.Val.{to_z, of_z}
 use mir.Facts.{to_z-of_z}
+use Rattle.std.proofs.lemmas.Bool.{and_parts}
 use Rattle.exact.proofs.Order.{pos-≤}
 use Rattle.exact.proofs.Machine.{reread}
-use Rattle.number.proofs.FieldCodec.{both}
 use Rattle.plane.specs.Length.{heading_length, has_length}
 use Rattle.plane.proofs.Lengths.{near_of}
 use Rattle.job.specs.Allowed.{between}
@@ -56,7 +56,7 @@ module _ (c : After-from-2) where
 pub path_step-requires : goal.path_step-requires
 path_step-requires c =
     let n = c.args.s in
-    let b = both (leb 1 n) (leb n 20000) (step c) in
+    let b = and_parts (leb 1 n) (leb n 20000) (step c) in
     subst₂ (Steerable c.args.g) (sym (exact_s c)) (sym (exact_r c))
     (record {
       heading = near_of c.args.g heading_length (heading c);

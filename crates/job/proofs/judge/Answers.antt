@@ -10,10 +10,6 @@ use Rattle.job.specs.Faults.{judge}
 use Rattle.job.proofs.Arrays.{unmapped}
 use Rattle.job.proofs.FaultLaws.{first_told, elements_used}
 use Rattle.job.proofs.judge.Goals as goal
-use Rattle.job.proofs.judge.Goals.{Else-not-is_within_count}
-
-sixty_four : (c : Else-not-is_within_count) → length c.args.j.elements ≡ 64
-sixty_four c = search (rules, unmapped)
 
 pub returns-in_err-vehicle_fault : goal.returns-in_err-vehicle_fault
 unfolding judge
@@ -36,6 +32,6 @@ returns-then-not-is_within_count c = rw (← c.in_ok-vehicle_fault.ensures, ← 
 pub returns : goal.returns
 unfolding judge
 returns c = let j = c.args.j in
-    let s = c.before.before.before in
-    let h : j.count ≤ length j.elements = omega (arith, within_most (record { least = 1; most = 64 }) j.count (sym c.if-not-is_within_count.ensures), sixty_four s) in
+    let n : length j.elements ≡ 64 = search (rules, unmapped) in
+    let h : j.count ≤ length j.elements = omega (arith, within_most (record { least = 1; most = 64 }) j.count (sym c.if-not-is_within_count.ensures), n) in
     rw (c.elements_fault.ensures, elements_used j.count j.step j.elements h, ← c.in_ok-vehicle_fault.ensures, ← c.if-not-start_allowed.ensures, ← c.if-not-is_within.ensures, ← c.if-not-is_within_count.ensures)

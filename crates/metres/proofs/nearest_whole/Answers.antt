@@ -30,7 +30,7 @@ pub float_to_bits-bits : goal.float_to_bits-bits
 float_to_bits-bits c = sized_no_nan 150000000 c.args.p c.requires.sized
 
 pub returns-then-exponent-lt1013 : goal.returns-then-exponent-lt1013
-returns-then-exponent-lt1013 c = far_below c.args.p (held c.before.before) c.requires (rw c.exponent_of-exponent.ensures at c.if-exponent-lt1013.true)
+returns-then-exponent-lt1013 c = far_below c.args.p (held (goal.at.returns-then-exponent-lt1013 c).Start) c.requires (rw c.exponent_of-exponent.ensures at c.if-exponent-lt1013.true)
 
 -- the power of two and the digits, as the machine has them
 module _ (c : Else-exponent-lt1013) where
@@ -75,26 +75,24 @@ pub overflow_cast-unit : goal.overflow_cast-unit
 overflow_cast-unit c = record { sfits = rw (unit_is c) (unit_below c) }
 
 pub nearest-requires : goal.nearest-requires
-nearest-requires c = record { positive = rw (unit_read_lem c.before) (pos-≤ (pow_pos (by c.before))) }
+nearest-requires c = record { positive = rw (unit_read_lem (goal.at.nearest-requires c).Else-exponent-lt1013) (pos-≤ (pow_pos (by (goal.at.nearest-requires c).Else-exponent-lt1013))) }
 
 pub overflow_sub-digits : goal.overflow_sub-digits
-overflow_sub-digits c = rw (negated_is c.before) (fits64 tt (within_neg (digits_within c.before)))
+overflow_sub-digits c = rw (negated_is (goal.at.overflow_sub-digits c).Else-exponent-lt1013) (fits64 tt (within_neg (digits_within (goal.at.overflow_sub-digits c).Else-exponent-lt1013)))
 
 pub nearest-requires-else-bits-lt-SIGN : goal.nearest-requires-else-bits-lt-SIGN
-nearest-requires-else-bits-lt-SIGN c = record { positive = rw (unit_read_lem c.before) (pos-≤ (pow_pos (by c.before))) }
+nearest-requires-else-bits-lt-SIGN c = record { positive = rw (unit_read_lem (goal.at.nearest-requires-else-bits-lt-SIGN c).Else-exponent-lt1013) (pos-≤ (pow_pos (by (goal.at.nearest-requires-else-bits-lt-SIGN c).Else-exponent-lt1013))) }
 
 pub returns-then-bits-lt-SIGN : goal.returns-then-bits-lt-SIGN
 returns-then-bits-lt-SIGN c =
-    let t = c.before in
-    let e = t.before in
+    let e = (goal.at.returns-then-bits-lt-SIGN c).Else-exponent-lt1013 in
     reread_result c.nearest.type_inv
     (c.nearest.ensures ∙ ap₂ nearest_z (digits_read e) (unit_read_lem e)
-    ∙ quotient e false (lt-leb _ _ t.if-bits-lt-SIGN.true))
+    ∙ quotient e false (lt-leb _ _ c.if-bits-lt-SIGN.true))
 
 pub returns-else-bits-lt-SIGN : goal.returns-else-bits-lt-SIGN
 returns-else-bits-lt-SIGN c =
-    let t = c.before in
-    let e = t.before in
+    let e = (goal.at.returns-else-bits-lt-SIGN c).Else-exponent-lt1013 in
     reread_result c.nearest-else-bits-lt-SIGN.type_inv
     (c.nearest-else-bits-lt-SIGN.ensures ∙ ap₂ nearest_z (negated_read e) (unit_read_lem e)
-    ∙ quotient e true (le-leb _ _ t.if-bits-lt-SIGN.false))
+    ∙ quotient e true (le-leb _ _ c.if-bits-lt-SIGN.false))

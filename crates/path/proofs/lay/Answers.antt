@@ -1,5 +1,5 @@
 -- `path::lay` meets its contract, answer by answer.
-use Prim.Native.Nat.{ℕ, ◌+◌}
+use Prim.Native.Nat.{ℕ}
 use mathlib.Core.Path.{◌≡◌, sym, ◌∙◌, ap, subst, subst₂}
 use mathlib.Core.Bool.{true, false}
 use native.Mathlib.Omega.{arith}
@@ -7,18 +7,18 @@ use borrow.Author.Rules.{rules}
 use borrow.Author.Tests.{leb-true}
 use lib.Dec.{leb}
 use lib.ListN.{length, take}
+use Rattle.std.proofs.lemmas.Bool.{and_parts}
 use Rattle.std.specs.Prelude.{Ok}
 use Rattle.std.proofs.lemmas.Result.{err_from_is_err_and}
-use Rattle.number.proofs.FieldCodec.{both}
 use Rattle.job.specs.declared.Job.{Job}
 use Rattle.job.specs.Faults.{judge}
 use Rattle.job.proofs.FaultLaws.{sound, numbered}
 use Rattle.job.proofs.Arrays.{unmapped}
 use Rattle.path.specs.declared.Station.{Station}
-use Rattle.path.specs.Stations.{step_total, start_station, stations}
+use Rattle.path.specs.Stations.{start_station, stations}
 use Rattle.path.specs.Laying.{PathRuns, room_for, written, stations_over, LayEnsures}
 use Rattle.path.specs.Lent.{room_runs}
-use Rattle.path.proofs.JobLaws.{accepted, stations_count, fault_answered, no_room_answered, laid_answered}
+use Rattle.path.proofs.JobLaws.{accepted, counted, fault_answered, no_room_answered, laid_answered}
 use Rattle.path.proofs.lay.Goals as goal
 
 pub returns-in_err-judge-clause-laid : goal.returns-in_err-judge-clause-laid
@@ -27,7 +27,7 @@ returns-in_err-judge-clause-laid c =
     rw (p.1, p.2) (fault_answered c.args.j (room_runs c.args.room.now) _ c.in_err-judge.ensures (λ e. numbered _ (c.in_err-judge.ensures ∙ e)))
 
 pub shared_ref_as_front-elements : goal.shared_ref_as_front-elements
-shared_ref_as_front-elements c = leb-true c.args.j.count 64 (both (leb 1 c.args.j.count) _ (sound c.args.j (sym c.in_ok-judge.ensures)).count).1
+shared_ref_as_front-elements c = leb-true c.args.j.count 64 (and_parts (leb 1 c.args.j.count) _ (sound c.args.j (sym c.in_ok-judge.ensures)).count).1
 
 pub step_count-steps-requires : goal.step_count-steps-requires
 step_count-steps-requires c =
@@ -39,15 +39,11 @@ overflow_add-stations c =
     let n : length c.args.j.elements ≡ 64 = search (rules, unmapped) in
     record { fits = omega (arith, c.step_count-steps.ensures, (accepted c.args.j n (sym c.in_ok-judge.ensures)).total) }
 
--- the stations asked for are those of the job
-count : (j : Job) (n : ℕ) → n ≡ step_total j.step 0 (take j.count j.elements) → n + 1 ≡ length (stations j)
-count j n e = ap (λ (m : ℕ). m + 1) e ∙ sym (stations_count j)
-
 pub returns-then-not-has_room-clause-laid : goal.returns-then-not-has_room-clause-laid
 returns-then-not-has_room-clause-laid c =
     let r = room_runs c.args.room.now in
     no_room_answered c.args.j r (sym c.in_ok-judge.ensures)
-    (subst (λ (n : ℕ). room_for n r ≡ false) (count c.args.j _ c.step_count-steps.ensures) (sym c.has_room.ensures ∙ c.if-not-has_room.true))
+    (subst (λ (n : ℕ). room_for n r ≡ false) (counted c.args.j _ c.step_count-steps.ensures) (sym c.has_room.ensures ∙ c.if-not-has_room.true))
 
 pub lay_stations-requires : goal.lay_stations-requires
 lay_stations-requires c =
@@ -69,5 +65,5 @@ laid job r q n h e t w =
 pub returns-clause-laid : goal.returns-clause-laid
 returns-clause-laid c =
     let j = c.args.j in
-    laid j (room_runs c.args.room.now) _ _ (sym c.in_ok-judge.ensures) (count j _ c.step_count-steps.ensures) (sym c.has_room.ensures ∙ c.if-not-has_room.false)
+    laid j (room_runs c.args.room.now) _ _ (sym c.in_ok-judge.ensures) (counted j _ c.step_count-steps.ensures) (sym c.has_room.ensures ∙ c.if-not-has_room.false)
     (c.lay_stations.ensures.laid ∙ ap (λ (p : Station). written (stations_over j.step (take j.count j.elements) p) (room_runs c.args.room.now)) c.start_station.ensures)

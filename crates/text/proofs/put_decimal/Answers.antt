@@ -14,4 +14,4 @@ pub put_digits-requires : goal.put_digits-requires
 put_digits-requires c = rw (all c) c.requires
 
 pub returns : goal.returns
-returns c = rw (all c.before.before.before.before) at c.put_digits.ensures
+returns c = rw (all (goal.at.returns c).After-digit_count) at c.put_digits.ensures

@@ -11,11 +11,11 @@ abbrev bounds : (c : Start) → Bounded (2000000000 ∷ []) (c.args.v.x ∷ [])
 bounds c = c.requires.x ∷ᵇ none
 
 pub overflow_sub-result : goal.overflow_sub-result
-overflow_sub-result c = fits (bounds c.before.before.before) (lit 0 ⊖ var 0) tt
+overflow_sub-result c = fits (bounds (goal.at.overflow_sub-result c).Start) (lit 0 ⊖ var 0) tt
 
 pub returns : goal.returns
 returns c =
-    let s = c.before.before.before in
+    let s = (goal.at.returns c).Start in
     let v = s.args.v in
     let ex : reread v.y ≡ v.y = search rules in
     let ey = held (bounds s) (lit 0 ⊖ var 0) tt ∙ ring (v.x ∷ []) (lit 0 ⊖ var 0) (neg (var 0)) tt in

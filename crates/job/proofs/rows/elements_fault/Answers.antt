@@ -41,7 +41,7 @@ pub loop-e-preserved : goal.loop-e-preserved
 loop-e-preserved c = let l = c.loop-e in
     let a = c.args in
     let e = get_or a.elements.now l.e-index empty_element in
-    let q = c.before.before.before in
+    let q = (goal.at.loop-e-preserved c).After-element_allowed in
     let t : c.tally_element-total.result ≡ tally a.step l.total e = c.tally_element-total.ensures in (
       omega (arith, t, l.invariant.0, tally_most a.step l.total e (sym q.element_allowed.ensures ∙ c.if-not-element_allowed.false)),
       rw t (rw c.if-not-element_allowed.false at (turn q)),

@@ -26,11 +26,11 @@ pub returns-in_err-unit_fault : goal.returns-in_err-unit_fault
 unfolding units_fault
 returns-in_err-unit_fault c =
     let p = err_from_is_err_and c.from_residual.result c.from_residual.ensures.1 in
-    let t = turn c.before.before.before in
+    let t = turn (goal.at.returns-in_err-unit_fault c).After-unit_fault in
     rw (p.1, p.2) (sym (first_told _ _ _ c.in_err-unit_fault.was) ∙ t)
 
 pub loop-i-preserved : goal.loop-i-preserved
-loop-i-preserved c = rw c.in_ok-unit_fault.was at (turn c.before.before)
+loop-i-preserved c = rw c.in_ok-unit_fault.was at (turn (goal.at.loop-i-preserved c).After-unit_fault)
 
 pub returns : goal.returns
 unfolding units_fault

@@ -4,10 +4,10 @@ use mathlib.Core.Path.{◌≡◌}
 use native.Mathlib.Omega.{arith}
 use borrow.Author.Rules.{rules}
 use lib.ListN.{length}
+use Rattle.std.proofs.lemmas.List.{get_or_default}
 use Rattle.std.proofs.lemmas.Result.{err_from_is_err_and}
 use Rattle.job.proofs.Arrays.{unmapped}
 use Rattle.kerb_reader.specs.Geometry.{no_vertex, read_line}
-use Rattle.kerb_reader.proofs.PartLaws.{inside}
 use Rattle.kerb_reader.proofs.FieldLaws.{in_use}
 use Rattle.kerb_reader.proofs.shapes.read_line.Goals as goal
 
@@ -32,4 +32,4 @@ returns c =
     let vs = c.in_ok-vertices.vertices in
     let places : length vs ≡ 500 = search (rules, unmapped) in
     let some : 0 < length vs = omega arith in
-    rw (inside vs 0 _ no_vertex some, ← c.in_ok-n.ensures, ← c.in_ok-vertices.ensures)
+    rw (get_or_default vs 0 _ no_vertex some, ← c.in_ok-n.ensures, ← c.in_ok-vertices.ensures)

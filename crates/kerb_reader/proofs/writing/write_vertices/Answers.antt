@@ -7,11 +7,11 @@ use lib.IntN.{ℤ}
 use lib.Ieee.{nan}
 use lib.ListN.{get_or, set}
 use lib.Seq.{sets}
+use Rattle.std.proofs.lemmas.List.{get_or_default}
 use Rattle.metres.specs.Tick.{VertexWithin}
 use Rattle.metres.specs.declared.Vertex.{Vertex}
 use Rattle.kerb_reader.specs.Geometry.{no_vertex}
 use Rattle.kerb_reader.specs.Ticks.{east_of, north_of}
-use Rattle.kerb_reader.proofs.PartLaws.{inside}
 use Rattle.kerb_reader.proofs.WriteLaws.{Writing, writing_start, writing_next, written_east, written_north}
 use Rattle.kerb_reader.proofs.writing.write_vertices.Goals as goal
 use Rattle.kerb_reader.proofs.writing.write_vertices.Goals.{In-loop-i}
@@ -21,7 +21,7 @@ loop-i-init c = writing_start _ _ _
 
 -- the vertex that is written
 read : (c : In-loop-i) → get_or c.args.others.now c.loop-i.i (record { x = nan; y = nan }) ≡ get_or c.args.others.now c.loop-i.i no_vertex
-read c = inside c.args.others.now c.loop-i.i _ _ c.loop-i-test.true
+read c = get_or_default c.args.others.now c.loop-i.i _ _ c.loop-i-test.true
 
 pub write_vertex-requires-in-loop-i : goal.write_vertex-requires-in-loop-i
 write_vertex-requires-in-loop-i c =
