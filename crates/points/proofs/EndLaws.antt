@@ -7,18 +7,19 @@ use native.Mathlib.Omega.{arith}
 use native.Mathlib.Numerals.{add-one}
 use native.Mathlib.Decide.{dec_le}
 use lib.ListN.{length, take, drop, get_or, set, get_or-eq_default}
-use lib.Seq.{sets, drop-cons, get_or-take, length-take-le}
+use lib.Seq.{sets, get_or-take, length-take-le}
 use lib.IntN.{ℤ, pos, ◌*ℤ◌}
+use Rattle.std.proofs.lemmas.List.{drop_more}
 use Rattle.exact.proofs.Polynomial.{◌⊖◌, ◌⊗◌, lit, var}
 use Rattle.exact.proofs.Certificate.{◌⊞◌, ◌⊠◌, ◌·◌, hyp, never}
 use Rattle.exact.proofs.Sizes.{within_sub, within_more}
 use Rattle.plane.specs.declared.Vec2.{Vec2}
 use Rattle.plane.specs.Vector.{Moderate}
 use Rattle.plane.specs.Length.{Near}
+use Rattle.number.proofs.ManyLaws.{next_of, none_of}
 use Rattle.job.specs.declared.Unit.{Unit as VehicleUnit}
 use Rattle.job.specs.declared.Vehicle.{Vehicle}
 use Rattle.job.specs.Empty.{empty_unit}
-use Rattle.path.proofs.TotalLaws.{taken_next, taken_end}
 use Rattle.unit.specs.Turn.{Wheelbase}
 use Rattle.walk.specs.Tests.{units_in_use}
 use Rattle.walk.specs.Units.{rear_axle, hitch_at}
@@ -68,21 +69,17 @@ module _ {v : Vehicle} {ds : List Vec2} (rig : RigReady v ds) where
   pub vectors_enough : v.count ≤ length ds
   vectors_enough = let h = vector_there {i = v.count - 1} (omega (arith, rig.least)) in omega (arith, rig.least)
 
--- what is left of a list from place i on
-drop_next : {A : Type 0} (xs : List A) (i : ℕ) (z : A) → i < length xs → drop i xs ≡ get_or xs i z ∷ drop (i + 1) xs
-drop_next xs i z h = rw add-one (drop-cons xs i z h)
-
 -- the first n units from place i on, whose front point is p, over an array that is filled in so far
 module _ (us : List VehicleUnit) (ds : List Vec2) (n i : ℕ) (p : Vec2) (ps : List UnitPlace) where
   pub placed_more : n ≤ length us → n ≤ length ds → i < n
       → sets (set ps i (place_of (get_or us i empty_unit) (get_or ds i zero_vector) p)) (i + 1) (unit_places (drop (i + 1) (take n us)) (drop (i + 1) ds) (hitch_at (get_or us i empty_unit) p (get_or ds i zero_vector)))
       ≡ sets ps i (unit_places (drop i (take n us)) (drop i ds) p)
   unfolding unit_places
-  placed_more hu hd h = rw (taken_next us n i empty_unit hu h, drop_next ds i zero_vector (omega arith), add-one)
+  placed_more hu hd h = rw (next_of us n i empty_unit hu h, drop_more ds i zero_vector (omega arith), add-one)
 
   pub placed_all : n ≤ i → sets ps i (unit_places (drop i (take n us)) (drop i ds) p) ≡ ps
   unfolding unit_places
-  placed_all h = rw (taken_end us n i h)
+  placed_all h = rw (none_of us n i h)
 
 -- no more places than units
 places_count : (us : List VehicleUnit) (ds : List Vec2) (p : Vec2) → length (unit_places us ds p) ≤ length us

@@ -6,20 +6,16 @@ use native.Mathlib.Numerals.{add-one}
 use native.Mathlib.Omega.{arith}
 use native.Mathlib.Decide.{dec_le}
 use lib.ListN.{length, take, drop, get_or, set, replicate, length-replicate, get_or-append, get_or-eq_default}
-use lib.Seq.{sets, sets-eq, take_at, get_or-append-add, get_or-drop}
-use Rattle.path.proofs.TotalLaws.{taken_next, taken_end}
+use lib.Seq.{sets, sets-eq, get_or-append-add, get_or-drop}
+use Rattle.number.proofs.ManyLaws.{next_of, none_of}
 
 -- what is left to fill in, over what is filled in, stays the whole
 module _ {A B : Type 0} (g : A → B) (xs : List A) (n : ℕ) (ys : List B) (k : ℕ) where
   pub filled_more : (z : A) → n ≤ length xs → k < n → sets (set ys k (g (get_or xs k z))) (k + 1) (map g (drop (k + 1) (take n xs))) ≡ sets ys k (map g (drop k (take n xs)))
-  filled_more z h l = rw (taken_next xs n k z h l, add-one)
+  filled_more z h l = rw (next_of xs n k z h l, add-one)
 
   pub filled_all : n ≤ k → sets ys k (map g (drop k (take n xs))) ≡ ys
-  filled_all h = rw (taken_end xs n k h)
-
--- the list is what was filled in
-pub taken_back : {A : Type 0} (l xs : List A) (n : ℕ) → length xs ≡ n → n ≤ length l → take n (sets l 0 xs) ≡ xs
-taken_back l xs n e h = rw (sets-eq xs l 0 (omega (arith, e))) (take_at xs (drop (0 + length xs) l) n e)
+  filled_all h = rw (none_of xs n k h)
 
 -- past it stands what stood there before
 same_everywhere : {A : Type 0} (n : ℕ) (z : A) (i : ℕ) → get_or (replicate n z) i z ≡ z

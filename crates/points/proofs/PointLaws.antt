@@ -15,6 +15,7 @@ use Rattle.exact.proofs.Order.{pos-≤}
 use Rattle.exact.proofs.Certificate.{NonNeg, ◌⊞◌, ◌⊠◌, hyp, le, le_scaled}
 use Rattle.exact.proofs.Sizes.{within_add, within_neg, ≤-size, ≥-size}
 use Rattle.exact.proofs.NearestLaws.{nearest_bounded}
+use Rattle.number.proofs.CodecMany.{take_sets}
 use Rattle.plane.specs.declared.Vec2.{Vec2}
 use Rattle.job.specs.declared.Side.{Side}
 use Rattle.job.specs.declared.Side.TheVariants.{Left, Right}
@@ -40,7 +41,7 @@ use Rattle.points.specs.Points.{along_of, half_width, side_of, end_of, offset_fr
 use Rattle.points.specs.Requires.{PlaceSized, CornerSized, BodySized, RigAt, UnitsSized, EndSized, BaseInUse, OffsetSized}
 use Rattle.points.proofs.EndLaws.{place_more, places_fit, units_sized}
 use Rattle.points.proofs.TableLaws.{rows_taken, row_in_use}
-use Rattle.points.proofs.Filling.{taken_back, padded}
+use Rattle.points.proofs.Filling.{padded}
 
 -- what the selectors of a row pick
 pub along_sized : {c : Corner} → CornerSized c → (a : Along) → Within 50000 (along_of c a)
@@ -148,7 +149,7 @@ module _ (v : Vehicle) (m : v.count ≤ 4) where
 
   -- the array of the points holds them first
   pub points_taken : (ds : List Vec2) (f : Vec2) → take (point_count v) (sets no_points 0 (rig_points v ds f)) ≡ rig_points v ds f
-  points_taken ds f = taken_back no_points (rig_points v ds f) (point_count v) (points_count ds f) (count_fits v m)
+  points_taken ds f = take_sets no_points (rig_points v ds f) (point_count v) (points_count ds f) (count_fits v m)
 
 -- of any vehicle, no more than it has
 pub points_at_most : (v : Vehicle) (ds : List Vec2) (f : Vec2) → length (rig_points v ds f) ≤ point_count v

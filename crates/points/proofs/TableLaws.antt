@@ -9,7 +9,7 @@ use borrow.Author.Tests.{eqb-true, leb-true}
 use lib.Dec.{eqb, leb}
 use lib.ListN.{length, take, get_or}
 use lib.Seq.{length-take-le}
-use Rattle.number.proofs.FieldCodec.{both}
+use Rattle.std.proofs.lemmas.Bool.{and_parts}
 use Rattle.job.specs.declared.Vehicle.{Vehicle}
 use Rattle.marks.specs.Count.{point_count}
 use Rattle.marks.proofs.CountLaws.{count_fits, unit_counted}
@@ -34,10 +34,10 @@ all_rows t n (r ∷ rs) = t n r && all_rows t (suc n) rs
 
 each_row : (t : ℕ → Row → Bool) (n : ℕ) (rs : List Row) (z : Row) → all_rows t n rs ≡ true → (k : ℕ) → k < length rs → t (n + k) (get_or rs k z) ≡ true
 each_row t n [] z h k l = absurd (omega arith)
-each_row t n (r ∷ rs) z h zero l = subst (λ (m : ℕ). t m r ≡ true) (sym (add-zero n)) (both (t n r) (all_rows t (suc n) rs) h).0
+each_row t n (r ∷ rs) z h zero l = subst (λ (m : ℕ). t m r ≡ true) (sym (add-zero n)) (and_parts (t n r) (all_rows t (suc n) rs) h).0
 each_row t n (r ∷ rs) z h (suc k) l =
     let e : suc n + k ≡ n + suc k = omega arith in
-    subst (λ (m : ℕ). t m (get_or rs k z) ≡ true) e (each_row t (suc n) rs z (both (t n r) (all_rows t (suc n) rs) h).1 k (omega arith))
+    subst (λ (m : ℕ). t m (get_or rs k z) ≡ true) e (each_row t (suc n) rs z (and_parts (t n r) (all_rows t (suc n) rs) h).1 k (omega arith))
 
 -- the first unit and the last are in use in every rig; a later one where the rig has its points
 abbrev unit_there : ℕ → ℕ → Bool

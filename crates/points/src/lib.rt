@@ -63,9 +63,9 @@ fn unit_places(v: Vehicle, d: [Vec2; 4], front: Vec2) -> [UnitPlace; 4]
     let last = v.count - 1;
     let mut places = [NO_PLACE; 4];
     let mut here = front;
-    for i in 0..last {
-        places[i] = place_of(v.units[i], d[i], here);
-        here = walk::units::hitch_at(v.units[i], here, d[i]);
+    for (i, u) in v.units[..last].iter().enumerate() {
+        places[i] = place_of(*u, d[i], here);
+        here = walk::units::hitch_at(*u, here, d[i]);
     }
     places[last] = place_of(v.units[last], d[last], here);
     places
@@ -151,8 +151,8 @@ pub fn points(v: Vehicle, d: [Vec2; 4], front: Vec2) -> [Vec2; marks::POINT_CAPA
 {
     let places = unit_places(v, d, front);
     let mut all = [Vec2 { x: 0, y: 0 }; marks::POINT_CAPACITY];
-    for k in 0..marks::point_count(v) {
-        all[k] = point(v, places, point_table::row_of(k));
+    for (k, place) in all[..marks::point_count(v)].iter_mut().enumerate() {
+        *place = point(v, places, point_table::row_of(k));
     }
     all
 }

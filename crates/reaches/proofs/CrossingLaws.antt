@@ -10,6 +10,7 @@ use lib.ListN.{length, drop, get_or, drop_of_length-le}
 use lib.Seq.{drop-cons}
 use lib.IntN.{ℤ, pos}
 use lib.Signed.{le_z, lt_z}
+use Rattle.std.proofs.lemmas.Bool.{or_parts}
 use Rattle.number.specs.Read.{pick}
 use Rattle.plane.specs.declared.Vec2.{Vec2}
 use Rattle.marks.specs.Marks.{has_bit, with_bit, bits_from}
@@ -21,13 +22,6 @@ use Rattle.reaches.specs.Crossing.{ahead_of, reach_of, crosses, smaller, greater
 use Rattle.reaches.specs.Cells.{Reaches, cell_at, store_cell}
 use Rattle.reaches.proofs.CellLaws.{store_same}
 use Rattle.reaches.proofs.LeastGreatest.{smaller_any_order, greater_any_order}
-
-neither : (a b : Bool) → (a || b) ≡ false → (a ≡ false) × (b ≡ false)
-neither true b e = absurd (clash e)
-  where
-    clash : true ≡ false → ⊥
-    clash e = let z : ◌≡◌ {A = ℕ} 0 1 = cc in omega arith
-neither false b e = (refl, e)
 
 -- a point crosses from below 0, and only from there
 module _ (s : Station) (old new : Vec2) where
@@ -49,7 +43,7 @@ unfolding some_crosses crossed_from
 none_crosses p s [] news c e = refl
 none_crosses p s (old ∷ olds) [] c e = refl
 none_crosses p s (old ∷ olds) (new ∷ news) c e =
-    let n = neither (crosses s old new) (some_crosses s olds news) e in
+    let n = or_parts (crosses s old new) (some_crosses s olds news) e in
     rw (not_crossed p s old new c n.0) (none_crosses (p + 1) s olds news c n.1)
 
 -- so the runs are as they should be

@@ -11,6 +11,7 @@ use lib.Dec.{leb}
 use lib.ListN.{length}
 use lib.IntN.{ℤ}
 use lib.Signed.{◌≤ℤ◌, ◌<ℤ◌, lt_z, lt_z_yes, ≤ℤ_refl, clash_ℤ}
+use Rattle.std.proofs.lemmas.Bool.{and_parts}
 use Rattle.exact.proofs.Order.{of_true, lt_z_false, lt_z_true-≤, ≤ℤ-trans}
 use Rattle.std.specs.Prelude.{Option, None, Some}
 use Rattle.refusal.specs.Numbers.{answered, refused}
@@ -34,19 +35,15 @@ module _ (count : ℕ) (r : Reaches) where
   one_considered i b e = rw (add-one i, e)
 
 -- the test of 21 that passed
-both : (a b : Bool) → (a && b) ≡ true → (a ≡ true) × (b ≡ true)
-both true b e = (refl, e)
-both false b e = absurd (let z : ◌≡◌ {A = ℕ} 0 1 = cc in omega arith)
-
 pub lent_room : (asked : ℕ) (r : Reaches) → widest_lent asked r ≡ true → Room asked r
 unfolding widest_lent
 lent_room asked r e =
     let l = leb asked (length r.left) in
     let m = leb asked (length r.right) in
     let n = leb asked (length r.marks) in
-    let p = (both (leb 1 asked && leb asked 2001) (l && (m && n)) e).1 in
-    let q = both l (m && n) p in
-    let s = both m n q.1 in
+    let p = (and_parts (leb 1 asked && leb asked 2001) (l && (m && n)) e).1 in
+    let q = and_parts l (m && n) p in
+    let s = and_parts m n q.1 in
     record { left = leb-true asked _ q.0; right = leb-true asked _ s.0; marks = leb-true asked _ s.1 }
 
 -- the answers

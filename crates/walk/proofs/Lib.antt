@@ -13,3 +13,4 @@ pub mod StartKept
 pub mod StepKept
 pub mod SoundKept
 pub mod HitchLaws
+pub mod SameAnswers

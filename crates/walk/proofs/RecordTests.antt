@@ -4,7 +4,7 @@ use mathlib.Core.Path.{◌≡◌}
 use mathlib.Core.Bool.{true, false, ◌&&◌}
 use borrow.Author.Tests.{leb-true, leb-false, ltb-true}
 use lib.Dec.{leb, ltb}
-use Rattle.number.proofs.FieldCodec.{both}
+use Rattle.std.proofs.lemmas.Bool.{and_parts}
 use Rattle.job.specs.Allowed.{between}
 use Rattle.path.specs.Laying.{PathRuns, room_for}
 use Rattle.walk.specs.Drawn.{Drawn, Lengths, Call}
@@ -18,8 +18,8 @@ pub record LentPath (asked : ℕ) (p : PathRuns) : Type 0 where
 
 pub lent_path : (asked : ℕ) (p : PathRuns) → path_lent asked p ≡ true → LentPath asked p
 lent_path asked p e =
-    let a = both (between 1 2001 asked) (room_for asked p) e in
-    let b = both (leb 1 asked) (leb asked 2001) a.0 in
+    let a = and_parts (between 1 2001 asked) (room_for asked p) e in
+    let b = and_parts (leb 1 asked) (leb asked 2001) a.0 in
     record { least = leb-true 1 asked b.0; most = leb-true asked 2001 b.1; room = a.1 }
 
 -- the other three runs
@@ -30,14 +30,14 @@ pub record LentReaches (asked : ℕ) (l : Lengths) : Type 0 where
 
 pub lent_reaches : (asked : ℕ) (l : Lengths) → reaches_lent asked l ≡ true → LentReaches asked l
 lent_reaches asked l e =
-    let a = both (leb asked l.left) (leb asked l.right && leb asked l.marks) e in
-    let b = both (leb asked l.right) (leb asked l.marks) a.1 in
+    let a = and_parts (leb asked l.left) (leb asked l.right && leb asked l.marks) e in
+    let b = and_parts (leb asked l.right) (leb asked l.marks) a.1 in
     record { left = leb-true asked l.left a.0; right = leb-true asked l.right b.0; marks = leb-true asked l.marks b.1 }
 
 pub lent_call : (c : Call) → lent c ≡ true → LentPath c.asked c.path × LentReaches c.asked c.reaches
 unfolding lent
 lent_call c e =
-    let a = both (path_lent c.asked c.path) (reaches_lent c.asked c.reaches) e in
+    let a = and_parts (path_lent c.asked c.path) (reaches_lent c.asked c.reaches) e in
     (lent_path c.asked c.path a.0, lent_reaches c.asked c.reaches a.1)
 
 -- a sound record
@@ -51,8 +51,8 @@ unfolding record_sound
 sound_record asked s e =
     let k = ltb s.station asked in
     let d = vectors_sound (units_in_use s.vehicle) s.vectors in
-    let a = both (vehicle_sound s.vehicle) (k && d) e in
-    let b = both k d a.1 in
+    let a = and_parts (vehicle_sound s.vehicle) (k && d) e in
+    let b = and_parts k d a.1 in
     record { vehicle = a.0; station = ltb-true s.station asked b.0; vectors = b.1 }
 
 -- a station that is not the last has one after it

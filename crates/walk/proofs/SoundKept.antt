@@ -8,8 +8,8 @@ use borrow.Author.Tests.{lt-ltb}
 use lib.ListN.{length, drop, replicate, length-map}
 use lib.Seq.{sets-eq}
 use lib.IntN.{pos, ◌*ℤ◌}
+use Rattle.std.proofs.lemmas.Bool.{and_parts, and_from}
 use Rattle.number.specs.Read.{pick}
-use Rattle.number.proofs.FieldCodec.{both, and}
 use Rattle.plane.specs.declared.Vec2.{Vec2}
 use Rattle.plane.specs.Vector.{minus}
 use Rattle.plane.specs.Length.{heading_length, has_length, Near}
@@ -29,7 +29,7 @@ use Rattle.walk.proofs.RecordTests.{sound_record, not_last_lem}
 -- a record passes by its three parts
 pub sound_again : (asked : ℕ) (s : Drawn) → vehicle_sound s.vehicle ≡ true → s.station < asked → vectors_sound (units_in_use s.vehicle) s.vectors ≡ true → record_sound asked s ≡ true
 unfolding record_sound
-sound_again asked s v k d = and v (and (lt-ltb s.station asked k) d)
+sound_again asked s v k d = and_from _ _ v (and_from _ _ (lt-ltb s.station asked k) d)
 
 -- one unit and those behind it, by what its tests and their turns came to
 module _ (i : ℕ) (u : VehicleUnit) (us : List VehicleUnit) (d : Vec2) (ds ds' : List Vec2) (f : Vec2) (b : Wheelbase (wheelbase_of u)) (n : has_length d (wheelbase_of u) ≡ true) where
@@ -45,7 +45,7 @@ module _ (i : ℕ) (u : VehicleUnit) (us : List VehicleUnit) (d : Vec2) (ds ds' 
   by_tests false true (turned xs) e q k =
       let z : d' ∷ xs ≡ ds' = cc in
       let l = of_near d' (wheelbase_of u) (turned_near d f u b (near_of d (wheelbase_of u) n) e).0 in
-      subst (λ (zs : List Vec2). vectors_sound (u ∷ us) zs ≡ true) z (and l (k xs refl))
+      subst (λ (zs : List Vec2). vectors_sound (u ∷ us) zs ≡ true) z (and_from _ _ l (k xs refl))
 
 vectors_kept : (i : ℕ) (a : Ahead) (us : List VehicleUnit) (ds ds' : List Vec2) (old new : Vec2) → AllWheelbases us → vectors_sound us ds ≡ true → turn_units i a us ds old new ≡ turned ds' → vectors_sound us ds' ≡ true
 unfolding turn_units vector_sound vectors_sound
@@ -54,7 +54,7 @@ vectors_kept i a [] (d ∷ ds) ds' old new b s e = let z : d ∷ ds ≡ ds' = cc
 vectors_kept i a (u ∷ us) (d ∷ ds) ds' old new b s e =
     let f = minus new old in
     let v = turned_by d f (wheelbase_of u) in
-    let p = both (has_length d (wheelbase_of u)) (vectors_sound us ds) s in
+    let p = and_parts (has_length d (wheelbase_of u)) (vectors_sound us ds) s in
     by_tests i u us d ds ds' f b.0 p.0 (too_far f (wheelbase_of u)) (fold_kept a u v)
     (turn_units (i + 1) (behind u v) us ds (hitch_at u old d) (hitch_at u new v)) refl e
     (λ xs q. vectors_kept (i + 1) (behind u v) us ds xs (hitch_at u old d) (hitch_at u new v) b.1 p.1 q)
@@ -79,7 +79,7 @@ placed_vectors : (g : Vec2) (us : List VehicleUnit) (rest : List Vec2) → Near 
     → vectors_sound us (map (λ (u : VehicleUnit). placed_by g (wheelbase_of u)) us ++ rest) ≡ true
 unfolding vector_sound vectors_sound
 placed_vectors g [] rest n b z = z
-placed_vectors g (u ∷ us) rest n b z = and (of_near _ (wheelbase_of u) (rule g (wheelbase_of u) (record { wheelbase = b.0; heading = n }))) (placed_vectors g us rest n b.1 z)
+placed_vectors g (u ∷ us) rest n b z = and_from _ _ (of_near _ (wheelbase_of u) (rule g (wheelbase_of u) (record { wheelbase = b.0; heading = n }))) (placed_vectors g us rest n b.1 z)
 
 pub start_sound : (asked : ℕ) (v : Vehicle) (g : Vec2) → 1 ≤ asked → vehicle_sound v ≡ true → Near g heading_length (pos 2 *ℤ heading_length) → record_sound asked (drawn_start v g) ≡ true
 unfolding start_vectors

@@ -9,7 +9,7 @@ use lib.Dec.{leb}
 use lib.ListN.{length, drop, replicate, length-take, length-map}
 use lib.Seq.{sets-eq}
 use lib.IntN.{pos, ◌*ℤ◌}
-use Rattle.number.proofs.FieldCodec.{both}
+use Rattle.std.proofs.lemmas.Bool.{and_parts}
 use Rattle.number.specs.Field.{size_at_most}
 use Rattle.plane.specs.declared.Vec2.{Vec2}
 use Rattle.plane.specs.Length.{heading_length, has_length, Near}
@@ -37,7 +37,7 @@ pub few_units : (v : Vehicle) → vehicle_sound v ≡ true → length (units_in_
 unfolding vehicle_sound
 few_units v e =
     let c = (sound_vehicle v (eqb-true (vehicle_fault v) 0 e)).count in
-    omega (arith, leb-true v.count 4 (both (leb 1 v.count) (leb v.count 4) c).1, length-take v.count v.units)
+    omega (arith, leb-true v.count 4 (and_parts (leb 1 v.count) (leb v.count 4) c).1, length-take v.count v.units)
 
 pub start_kept : (v : Vehicle) (g : Vec2) → vehicle_sound v ≡ true → Near g heading_length (pos 2 *ℤ heading_length) → AllOfLength (units_in_use v) (start_vectors v g)
 unfolding start_vectors
@@ -52,10 +52,10 @@ heading_of : (p : PathRuns) (i : ℕ) → station_sound (station_at p i) ≡ tru
 unfolding station_sound
 heading_of p i e =
     let s = station_at p i in
-    let a = both (size_at_most 150000000 s.position.x) (size_at_most 150000000 s.position.y && has_length s.heading heading_length) e in
-    near_of s.heading heading_length (both (size_at_most 150000000 s.position.y) (has_length s.heading heading_length) a.1).1
+    let a = and_parts (size_at_most 150000000 s.position.x) (size_at_most 150000000 s.position.y && has_length s.heading heading_length) e in
+    near_of s.heading heading_length (and_parts (size_at_most 150000000 s.position.y) (has_length s.heading heading_length) a.1).1
 
 pub start_heading_lem : (p : PathRuns) (n : ℕ) → path_sound (suc n) p ≡ true → Near (station_at p 0).heading heading_length (pos 2 *ℤ heading_length)
 unfolding path_sound
-start_heading_lem p zero e = heading_of p 0 (both true (station_sound (station_at p 0)) e).1
-start_heading_lem p (suc n) e = start_heading_lem p n (both (path_sound (suc n) p) (station_sound (station_at p (suc n))) e).0
+start_heading_lem p zero e = heading_of p 0 (and_parts true (station_sound (station_at p 0)) e).1
+start_heading_lem p (suc n) e = start_heading_lem p n (and_parts (path_sound (suc n) p) (station_sound (station_at p (suc n))) e).0

@@ -16,6 +16,7 @@ use Rattle.path.specs.Laying.{PathRuns, path_runs}
 use Rattle.walk.specs.declared.Walk.{Walk}
 use Rattle.walk.specs.Drawn.{view, station_at}
 use Rattle.walk.specs.Tests.{station_sound, path_sound, vehicle_sound, vector_sound, vectors_sound, record_sound, at_last}
+use Rattle.walk.specs.Units.{none, behind}
 use Rattle.walk.specs.Inner.{UnitDrawn, Placed, HitchReady, FoldReady, TurnReady, UnitsReady}
 use Rattle.walk.specs.Moving.{StartReady, AdvanceReady}
 use Rattle.walk.proofs.ReadyLaws.{start_ready, advance_ready}
@@ -67,11 +68,17 @@ second = units_met.rig.units 1 (omega arith)
 front : Placed (station_at two_stations 0).position
 front = record { x = record { size = omega arith }; y = record { size = omega arith } }
 
+next_front : Placed (station_at two_stations 1).position
+next_front = record { x = record { size = omega arith }; y = record { size = omega arith } }
+
 hitch_met : HitchReady (unit_at 0) (station_at two_stations 0).position (north 5000)
 hitch_met = record { unit = first; place = front }
 
 fold_met : FoldReady (unit_at 0) (north 5000) (unit_at 1) (north 200000)
 fold_met = record { lead = first; unit = second }
 
-turn_met : TurnReady true (unit_at 0) (unit_at 1) (north 5000) (north 200000) (station_at two_stations 0).position (station_at two_stations 0).position
+turn_met : TurnReady (behind (unit_at 0) (north 5000)) (unit_at 1) (north 200000) (station_at two_stations 0).position (station_at two_stations 0).position
 turn_met = record { unit = second; lead = first; from = front; to = front }
+
+first_turn_met : TurnReady none (unit_at 0) (north 5000) (station_at two_stations 0).position (station_at two_stations 1).position
+first_turn_met = record { unit = first; lead = tt; from = front; to = next_front }

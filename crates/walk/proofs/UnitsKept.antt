@@ -7,8 +7,8 @@ use native.Mathlib.Omega.{arith}
 use borrow.Author.Tests.{eqb-true}
 use lib.Dec.{eqb}
 use lib.IntN.{pos, ◌*ℤ◌}
+use Rattle.std.proofs.lemmas.Bool.{and_parts}
 use Rattle.number.specs.Read.{pick}
-use Rattle.number.proofs.FieldCodec.{both}
 use Rattle.plane.specs.declared.Vec2.{Vec2}
 use Rattle.plane.specs.Vector.{minus}
 use Rattle.plane.specs.Length.{Near}
@@ -37,7 +37,7 @@ all_wheelbases form count i (u ∷ us) h =
     let f = first_none (unit_fault_at form count i u) (fault_of (unit_fault_at form count) (λ k v. k + 1) (λ k. 0) (i + 1) us) h in
     let m = (first_none (measures_fault (eqb i 0) (eqb (i + 1) count) u) (body_fault form u.body) f.0).0 in
     let a = (or_none (unit_allowed (eqb i 0) (eqb (i + 1) count) u) 3 0 m).0 in (
-      wheelbase_of_lem u.wheelbase (both (wheelbase_allowed u.wheelbase) (hitch_allowed (eqb (i + 1) count) u.wheelbase u.hitch && fold_allowed (eqb i 0) u.fold) a).0,
+      wheelbase_of_lem u.wheelbase (and_parts (wheelbase_allowed u.wheelbase) (hitch_allowed (eqb (i + 1) count) u.wheelbase u.hitch && fold_allowed (eqb i 0) u.fold) a).0,
       all_wheelbases form count (i + 1) us f.1,
     )
 

@@ -5,8 +5,6 @@ use mathlib.Core.Bool.{Bool, true, false}
 use mathlib.Core.List.{List, [], ◌∷◌, ◌++◌, append_assoc}
 use native.Mathlib.Omega.{arith}
 use native.Mathlib.Numerals.{add-one}
-use borrow.Author.Tests.{lt-ltb}
-use lib.Dec.{ltb}
 use lib.ListN.{length, take, drop, get_or, set, length-drop, take-append-drop}
 use lib.Seq.{drop-cons, drop-drop, take-suc-set, drop-set-lt}
 use Rattle.exact.specs.Size.{Within}
@@ -19,11 +17,11 @@ use Rattle.job.specs.declared.Vehicle.{Vehicle}
 use Rattle.job.specs.Empty.{empty_unit}
 use Rattle.refusal.specs.Numbers.{answered, refused}
 use Rattle.unit.specs.Turn.{turned_by, too_far}
-use Rattle.path.proofs.TotalLaws.{taken_next, taken_end}
+use Rattle.number.proofs.ManyLaws.{next_of, none_of}
 use Rattle.walk.specs.Tests.{units_in_use}
 use Rattle.walk.specs.Units.{wheelbase_of, hitch_at, Ahead, none, behind, fold_kept, Turning, turned, stopped, onto, turn_units}
 use Rattle.walk.specs.Rig.{zero_vector}
-use Rattle.walk.specs.Inner.{next_turn, ahead_if, UnitDrawn, Placed, HitchReady, TurnReady, RigReady, UnitsReady}
+use Rattle.walk.specs.Inner.{next_turn, UnitDrawn, AheadDrawn, Placed, HitchReady, TurnReady, RigReady, UnitsReady}
 use Rattle.walk.proofs.DrawLaws.{drawn_again, hitch_within}
 
 -- one unit, from what its own turn answered
@@ -70,20 +68,20 @@ turned_rest i a [] old new = refl
 turned_rest i a (d ∷ ds) old new = refl
 
 -- after i units: the vectors `out`, turned as far as i, the front points of the next unit, and the unit ahead of it
-pub record UnitsLeft (v : Vehicle) (ds : List Vec2) (whole : Turning) (i : ℕ) (out : List Vec2) (old new : Vec2) (lead : VehicleUnit) (ahead : Vec2) : Type 0 where
-  pub same : prefixed (take i out) (turn_units (i + 1) (ahead_if (ltb 0 i) lead ahead) (drop i (units_in_use v)) (drop i ds) old new) ≡ whole
+pub record UnitsLeft (v : Vehicle) (ds : List Vec2) (whole : Turning) (i : ℕ) (out : List Vec2) (old new : Vec2) (ahead : Ahead) : Type 0 where
+  pub same : prefixed (take i out) (turn_units (i + 1) ahead (drop i (units_in_use v)) (drop i ds) old new) ≡ whole
   pub rest : drop i out ≡ drop i ds
-  pub leading : UnitDrawn lead ahead
+  pub leading : AheadDrawn ahead
   pub from : Within (150000000 + 400000 * i) old.x × Within (150000000 + 400000 * i) old.y
   pub to : Within (150000000 + 400000 * i) new.x × Within (150000000 + 400000 * i) new.y
 
 -- before the first unit
 pub units_start : (v : Vehicle) (ds : List Vec2) (old new : Vec2) → UnitsReady v ds old new
-    → UnitsLeft v ds (turn_units 1 none (units_in_use v) ds old new) 0 ds old new (get_or v.units 0 empty_unit) (get_or ds 0 zero_vector)
+    → UnitsLeft v ds (turn_units 1 none (units_in_use v) ds old new) 0 ds old new none
 units_start v ds old new r = record {
   same = first (turn_units 1 none (units_in_use v) ds old new);
   rest = refl;
-  leading = r.rig.units 0 (omega (arith, r.rig.least));
+  leading = tt;
   from = (r.old_x, r.old_y);
   to = (r.new_x, r.new_y);
 }
@@ -105,16 +103,13 @@ turned_drawn a u d old new x t e = by (too_far (minus new old) (wheelbase_of u))
     by false true p q = let z : v ≡ x = cc in subst (UnitDrawn u) z (drawn_again t (minus new old) p)
     by false false p q = absurd (let z : ◌≡◌ {A = ℕ} 0 1 = cc in omega arith)
 
-module _ {v : Vehicle} {ds : List Vec2} {whole : Turning} {i : ℕ} {out : List Vec2} {old new : Vec2} {lead : VehicleUnit} {ahead : Vec2}
-    (l : UnitsLeft v ds whole i out old new lead ahead) (r : RigReady v ds) (units : length v.units ≡ 4) (vectors : length ds ≡ 4) (h : i < v.count) where
+module _ {v : Vehicle} {ds : List Vec2} {whole : Turning} {i : ℕ} {out : List Vec2} {old new : Vec2} {a : Ahead}
+    (l : UnitsLeft v ds whole i out old new a) (r : RigReady v ds) (units : length v.units ≡ 4) (vectors : length ds ≡ 4) (h : i < v.count) where
   abbrev u : VehicleUnit
   u = get_or v.units i empty_unit
 
   abbrev d : Vec2
   d = get_or ds i zero_vector
-
-  abbrev a : Ahead
-  a = ahead_if (ltb 0 i) lead ahead
 
   abbrev us : List VehicleUnit
   us = drop (i + 1) (units_in_use v)
@@ -126,7 +121,7 @@ module _ {v : Vehicle} {ds : List Vec2} {whole : Turning} {i : ℕ} {out : List 
   inside = omega (arith, r.most)
 
   units_split : drop i (units_in_use v) ≡ u ∷ us
-  units_split = taken_next v.units v.count i empty_unit (omega (arith, r.most)) h
+  units_split = next_of v.units v.count i empty_unit (omega (arith, r.most)) h
 
   vectors_split : drop i ds ≡ d ∷ later
   vectors_split = drop-cons ds i zero_vector (omega (arith, inside)) ∙ rw add-one
@@ -137,7 +132,7 @@ module _ {v : Vehicle} {ds : List Vec2} {whole : Turning} {i : ℕ} {out : List 
   place : {p : Vec2} → Within (150000000 + 400000 * i) p.x × Within (150000000 + 400000 * i) p.y → Placed p
   place w = record { x = within_more (omega (arith, inside)) w.0; y = within_more (omega (arith, inside)) w.1 }
 
-  pub turn_ready : TurnReady (ltb 0 i) lead u ahead d old new
+  pub turn_ready : TurnReady a u d old new
   turn_ready = record { unit = r.units i h; lead = l.leading; from = place l.from; to = place l.to }
 
   pub stopped_here : (n : ℕ) → refused n ≡ next_turn a u d old new → stopped n (i + 1) ≡ whole
@@ -156,11 +151,10 @@ module _ {v : Vehicle} {ds : List Vec2} {whole : Turning} {i : ℕ} {out : List 
     long : i < length out
     long = omega (arith, length-drop i out, length-drop i ds, ap length l.rest, inside)
 
-    same_next : prefixed (take (i + 1) (set out i x)) (turn_units (i + 1 + 1) (ahead_if (ltb 0 (i + 1)) u x) us later (hitch_at u old d) (hitch_at u new x)) ≡ whole
+    same_next : prefixed (take (i + 1) (set out i x)) (turn_units (i + 1 + 1) (behind u x) us later (hitch_at u old d) (hitch_at u new x)) ≡ whole
     same_next =
         let left : take (i + 1) (set out i x) ≡ take i out ++ (x ∷ []) = rw add-one (take-suc-set out i x long) in
-        let led : ltb 0 (i + 1) ≡ true = lt-ltb 0 (i + 1) (omega arith) in
-        rw (left, led)
+        rw left
         (sym (prefixed_onto (take i out) x (turn_units (i + 1 + 1) (behind u x) us later (hitch_at u old d) (hitch_at u new x)))
         ∙ ap (prefixed (take i out)) (sym (here ∙ turned_next (i + 1) a u us d later old new x (sym q))) ∙ l.same)
 
@@ -170,7 +164,7 @@ module _ {v : Vehicle} {ds : List Vec2} {whole : Turning} {i : ℕ} {out : List 
     farther : {p : Vec2} → Within (150000000 + 400000 * i + 400000) p.x × Within (150000000 + 400000 * i + 400000) p.y → Within (150000000 + 400000 * (i + 1)) p.x × Within (150000000 + 400000 * (i + 1)) p.y
     farther w = (within_more (omega arith) w.0, within_more (omega arith) w.1)
 
-    pub units_next : UnitsLeft v ds whole (i + 1) (set out i x) (hitch_at u old d) (hitch_at u new x) u x
+    pub units_next : UnitsLeft v ds whole (i + 1) (set out i x) (hitch_at u old d) (hitch_at u new x) (behind u x)
     units_next = record {
       same = same_next;
       rest = rest_next;
@@ -180,9 +174,8 @@ module _ {v : Vehicle} {ds : List Vec2} {whole : Turning} {i : ℕ} {out : List 
     }
 
 -- after the last unit
-pub units_done : {v : Vehicle} {ds : List Vec2} {whole : Turning} {i : ℕ} {out : List Vec2} {old new : Vec2} {lead : VehicleUnit} {ahead : Vec2}
-    → UnitsLeft v ds whole i out old new lead ahead → v.count ≤ i → turned out ≡ whole
-units_done {v} {ds} {whole} {i} {out} {old} {new} {lead} {ahead} l h =
-    let a = ahead_if (ltb 0 i) lead ahead in
-    let end = ap (λ (xs : List VehicleUnit). turn_units (i + 1) a xs (drop i ds) old new) (taken_end v.units v.count i h) ∙ turned_rest (i + 1) a (drop i ds) old new in
+pub units_done : {v : Vehicle} {ds : List Vec2} {whole : Turning} {i : ℕ} {out : List Vec2} {old new : Vec2} {a : Ahead}
+    → UnitsLeft v ds whole i out old new a → v.count ≤ i → turned out ≡ whole
+units_done {v} {ds} {whole} {i} {out} {old} {new} {a} l h =
+    let end = ap (λ (xs : List VehicleUnit). turn_units (i + 1) a xs (drop i ds) old new) (none_of v.units v.count i h) ∙ turned_rest (i + 1) a (drop i ds) old new in
     ap turned (sym (take-append-drop i out) ∙ ap (λ (zs : List Vec2). take i out ++ zs) l.rest) ∙ ap (prefixed (take i out)) (sym end) ∙ l.same

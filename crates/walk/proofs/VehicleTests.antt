@@ -8,9 +8,9 @@ use lib.Dec.{eqb}
 use lib.ListN.{length, get_or, length-take}
 use lib.Seq.{get_or-take}
 use lib.IntN.{nat_abs}
+use Rattle.std.proofs.lemmas.Bool.{and_parts}
 use Rattle.exact.specs.Size.{Within}
 use Rattle.exact.proofs.Order.{≤-pos}
-use Rattle.number.proofs.FieldCodec.{both}
 use Rattle.job.specs.declared.Form.TheVariants.{Long}
 use Rattle.job.specs.declared.Unit.{Unit as VehicleUnit}
 use Rattle.job.specs.declared.Vehicle.{Vehicle}
@@ -26,8 +26,8 @@ ready : (first last : Bool) (u : VehicleUnit) → unit_allowed first last u ≡ 
 ready first last u e =
     let h = hitch_allowed last u.wheelbase u.hitch in
     let f = fold_allowed first u.fold in
-    let p = both (wheelbase_allowed u.wheelbase) (h && f) e in
-    let q = both h f p.1 in
+    let p = and_parts (wheelbase_allowed u.wheelbase) (h && f) e in
+    let q = and_parts h f p.1 in
     record {
       wheelbase = wheelbase_of_lem u.wheelbase p.0;
       hitch = omega (arith, leb-true (nat_abs u.hitch) (hitch_most last u.wheelbase) q.0, hitch_most_lem last u.wheelbase);
@@ -86,8 +86,8 @@ module _ (v : Vehicle) (e : vehicle_sound v ≡ true) where
   widths =
       let f = half_width_allowed v.front_half_width in
       let r = half_width_allowed v.rear_half_width in
-      let p = both (old_overhang_allowed v.form v.overhang) (f && r) passed.widths in
-      let q = both f r p.1 in
+      let p = and_parts (old_overhang_allowed v.form v.overhang) (f && r) passed.widths in
+      let q = and_parts f r p.1 in
       (p.0, q.0, q.1)
 
   overhang_form : v.overhang ≤ overhang_most v.form

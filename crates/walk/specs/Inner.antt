@@ -1,5 +1,5 @@
 -- What the inner functions of a walk work with, and what they require of their callers.
-use Rattle.std.specs.Prelude.{ℕ, ◌≤◌, ◌<◌, Bool, List, get_or, Result, Ok, Err, pos, nat_abs, ◌*ℤ◌}
+use Rattle.std.specs.Prelude.{ℕ, ◌≤◌, ◌<◌, List, get_or, Option, None, Some, Result, Ok, Err, pos, nat_abs, ◌*ℤ◌}
 use Rattle.exact.specs.Size.{Within}
 use Rattle.number.specs.Read.{pick}
 use Rattle.plane.specs.declared.Vec2.{Vec2}
@@ -11,6 +11,7 @@ use Rattle.job.specs.Empty.{empty_unit}
 use Rattle.refusal.specs.Numbers.{number_of, Answer, answered, refused}
 use Rattle.unit.specs.Turn.{turned_by, too_far, Wheelbase}
 use Rattle.walk.specs.declared.UnitRefusal.{UnitRefusal}
+use Rattle.walk.specs.declared.units.Lead.{Lead}
 use Rattle.walk.specs.Units.{wheelbase_of, Ahead, none, behind, fold_kept, Turning, turned, stopped}
 use Rattle.walk.specs.Rig.{zero_vector}
 
@@ -22,8 +23,9 @@ next_turn ahead u d old new =
     pick (too_far f (wheelbase_of u)) (refused 22) (pick (fold_kept ahead u d') (answered d') (refused 23))
 
 -- the unit ahead, if there is one
-abbrev pub ahead_if : Bool → VehicleUnit → Vec2 → Ahead
-ahead_if t a d = pick t (behind a d) none
+abbrev pub ahead_of : Option Lead → Ahead
+ahead_of None = none
+ahead_of (Some a) = behind a.unit a.d
 
 -- the turns of all units, of what the code answers
 abbrev pub as_turning : Result (List Vec2) UnitRefusal → Turning
@@ -56,10 +58,15 @@ pub record FoldReady (a : VehicleUnit) (ahead : Vec2) (u : VehicleUnit) (d : Vec
   pub lead : UnitDrawn a ahead
   pub unit : UnitDrawn u d
 
+-- the unit ahead, if there is one, can be drawn
+abbrev pub AheadDrawn : Ahead → Type 0
+AheadDrawn none = Unit {0}
+AheadDrawn (behind a d) = UnitDrawn a d
+
 -- what one unit's turn asks
-pub record TurnReady (behind_one : Bool) (a u : VehicleUnit) (ahead d old new : Vec2) : Type 0 where
+pub record TurnReady (ahead : Ahead) (u : VehicleUnit) (d old new : Vec2) : Type 0 where
   pub unit : UnitDrawn u d
-  pub lead : UnitDrawn a ahead
+  pub lead : AheadDrawn ahead
   pub from : Placed old
   pub to : Placed new
 

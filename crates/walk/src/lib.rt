@@ -1,4 +1,4 @@
-// The walk of a rig along a path: its record, its tests and its step, by value and writing no run.
+// The walk of a rig along a path: its record, its tests and its step, writing no run.
 #![tactic(auto)]
 
 ghost use Rattle.walk.specs.Rigid.{StepRule};

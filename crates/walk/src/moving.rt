@@ -14,8 +14,8 @@ fn start_vectors(v: Vehicle, g: Vec2) -> [Vec2; 4]
     ensures { result ≡ start_vectors v g }
 {
     let mut d = [Vec2 { x: 0, y: 0 }; 4];
-    for i in 0..v.count {
-        d[i] = unit::placed(g, i64::from(v.units[i].wheelbase));
+    for (i, u) in v.units[..v.count].iter().enumerate() {
+        d[i] = unit::placed(g, i64::from(u.wheelbase));
     }
     d
 }

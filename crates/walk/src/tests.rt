@@ -56,12 +56,7 @@ pub fn path_sound(asked: usize, path: Path) -> bool
     requires { PathLent asked (path_of path) }
     ensures { result ≡ path_sound asked (path_of path.entry) }
 {
-    for i in 0..asked {
-        if !station_sound(station_at(path, i)) {
-            return false;
-        }
-    }
-    true
+    (0..asked).all(|i| station_sound(station_at(path, i)))
 }
 
 #[tactic(auto, using(job::proofs::FaultLaws::ok_by_number), unfolding(crate::specs::Tests::vehicle_sound))]
@@ -74,7 +69,7 @@ pub fn vehicle_sound(v: Vehicle) -> bool
 fn is_zero(d: Vec2) -> bool
     ensures { result ≡ is_zero d }
 {
-    (d.x == 0) & (d.y == 0)
+    d == Vec2 { x: 0, y: 0 }
 }
 
 // The vector at place k: that of a unit in use has its length, any other is zero.
@@ -92,12 +87,7 @@ fn vectors_sound(v: Vehicle, d: [Vec2; 4]) -> bool
     requires { VehicleTested v }
     ensures { result ≡ vectors_sound (units_in_use v) d }
 {
-    for k in 0..4 {
-        if !vector_sound(v, k, d[k]) {
-            return false;
-        }
-    }
-    true
+    d.iter().enumerate().all(|(k, x)| vector_sound(v, k, *x))
 }
 
 // 27: any record is tested; its vectors only where the vehicle is sound.
@@ -116,8 +106,5 @@ pub fn record_sound(asked: usize, w: Walk) -> bool
 pub fn at_last(asked: usize, station: usize) -> bool
     ensures { result ≡ leb asked (station + 1) }
 {
-    if asked == 0 {
-        return true;
-    }
-    asked - 1 <= station
+    asked.saturating_sub(1) <= station
 }

@@ -11,5 +11,5 @@ use Rattle.points.proofs.unit_places.Given as goal
 abbrev pub invariant-loop-i : goal.invariant-loop-i
 invariant-loop-i l = record {
   near : PlaceSized (150000000 + 400000 * l.i) l.here;
-  left : sets l.places l.i (unit_places (drop l.i (take l.v.count l.v.units)) (drop l.i l.d) l.here) ≡ sets no_places 0 (places_of l.v l.d l.fn.front);
+  left : sets l.places l.i (unit_places (drop l.i (take l.fn.v.count l.fn.v.units)) (drop l.i l.d) l.here) ≡ sets no_places 0 (places_of l.fn.v l.d l.fn.front);
 }

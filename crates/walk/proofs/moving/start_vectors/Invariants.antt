@@ -8,5 +8,5 @@ use Rattle.walk.proofs.moving.start_vectors.Given as goal
 
 abbrev pub invariant-loop-i : goal.invariant-loop-i
 invariant-loop-i l =
-    let us = take l.v.count l.v.units in
+    let us = take l.fn.v.count l.fn.v.units in
     sets l.d l.i (placed_from l.g (drop l.i us)) ≡ sets (replicate 4 zero_vector) 0 (placed_from l.g us)

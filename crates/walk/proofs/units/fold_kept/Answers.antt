@@ -12,7 +12,7 @@ module _ (c : After-from-ld) where
   limit : reread c.from-limit.result ≡ c.args.u.fold
   limit = search rules
 
-  base : reread c.from-la.result ≡ wheelbase_of c.args.a
+  base : reread c.from-la.result ≡ wheelbase_of c.args.ahead.unit
   base = search rules
 
   own : reread c.from-ld.result ≡ wheelbase_of c.args.u

@@ -1,18 +1,20 @@
 -- `walk::units::turn_next` meets its contract: 22, then 23, then the new vector.
-use mathlib.Core.Path.{◌≡◌, sym, ◌∙◌, ap, ap₂, subst, subst₂}
-use mathlib.Core.Bool.{Bool, false}
+use mathlib.Core.Path.{◌≡◌, refl, sym, ◌∙◌, ap, ap₂, subst, subst₂}
+use mathlib.Core.Bool.{Bool}
 use borrow.Author.Rules.{rules}
+use Rattle.std.specs.Prelude.{Option, None, Some}
 use Rattle.exact.proofs.Machine.{reread}
 use Rattle.plane.specs.declared.Vec2.{Vec2}
 use Rattle.plane.specs.Vector.{minus}
 use Rattle.unit.specs.Turn.{turned_by, too_far, Turnable}
-use Rattle.walk.specs.Units.{wheelbase_of, fold_kept, behind}
-use Rattle.walk.specs.Inner.{next_turn, FoldReady}
+use Rattle.walk.specs.declared.units.Lead.{Lead}
+use Rattle.walk.specs.Units.{wheelbase_of, Ahead, none, behind, fold_kept}
+use Rattle.walk.specs.Inner.{next_turn, ahead_of, AheadDrawn, FoldReady}
 use Rattle.walk.proofs.DrawLaws.{turnable, drawn_again}
 use Rattle.walk.proofs.units.turn_next.Goals as goal
-use Rattle.walk.proofs.units.turn_next.Goals.{After-moves_too_far, After-turned-t, Else-moves_too_far}
+use Rattle.walk.proofs.units.turn_next.Goals.{After-moves_too_far}
 
--- the move and the wheelbase, wide, and whether it is too far
+-- the move and the wheelbase, wide, whether it is too far, and the new vector
 module _ (c : After-moves_too_far) where
   abbrev f : Vec2
   f = minus c.args.new c.args.old
@@ -20,48 +22,55 @@ module _ (c : After-moves_too_far) where
   base : reread c.from-l.result ≡ wheelbase_of c.args.u
   base = search rules
 
-  far : c.moves_too_far.result ≡ too_far f (wheelbase_of c.args.u)
-  far = c.moves_too_far.ensures ∙ ap₂ too_far c.minus-f.ensures base
+  far : {t : Bool} → c.moves_too_far.result ≡ t → too_far f (wheelbase_of c.args.u) ≡ t
+  far e = sym (c.moves_too_far.ensures ∙ ap₂ too_far c.minus-f.ensures base) ∙ e
+
+  turn : {x : Vec2} → x ≡ turned_by c.args.d c.minus-f.result (reread c.from-l.result) → x ≡ turned_by c.args.d f (wheelbase_of c.args.u)
+  turn e = e ∙ ap₂ (turned_by c.args.d) c.minus-f.ensures base
+
+  kept : {x : Vec2} {t : Bool} (a : Ahead) → x ≡ turned_by c.args.d f (wheelbase_of c.args.u) → t ≡ fold_kept a c.args.u x → fold_kept a c.args.u (turned_by c.args.d f (wheelbase_of c.args.u)) ≡ t
+  kept a e k = sym (k ∙ ap (fold_kept a c.args.u) e)
 
 pub returns-then-moves_too_far : goal.returns-then-moves_too_far
 unfolding next_turn
-returns-then-moves_too_far c = rw (sym (far c.before) ∙ c.if-moves_too_far.true)
-
--- it is not too far
-near : (c : Else-moves_too_far) → too_far (f c.before) (wheelbase_of c.args.u) ≡ false
-near c = sym (far c.before) ∙ c.if-moves_too_far.false
+returns-then-moves_too_far c = let m = (goal.at.returns-then-moves_too_far c).After-moves_too_far in rw (far m c.if-moves_too_far.true)
 
 pub turned-t-requires : goal.turned-t-requires
 turned-t-requires c =
-    let e = (goal.at.turned-t-requires c).Else-moves_too_far in
-    subst₂ (Turnable c.args.d) (sym c.minus-f.ensures) (sym (base e.before)) (turnable c.requires.unit (f e.before) (near e))
+    let m = (goal.at.turned-t-requires c).After-moves_too_far in
+    subst₂ (Turnable c.args.d) (sym c.minus-f.ensures) (sym (base m)) (turnable c.requires.unit (f m) (far m c.if-moves_too_far.false))
 
--- the new vector, and whether it keeps the fold
-turn : (c : After-turned-t) → let e = c.before in c.turned-t.result ≡ turned_by c.args.d (f e.before) (wheelbase_of c.args.u)
-turn c = let e = c.before in c.turned-t.ensures ∙ ap₂ (turned_by c.args.d) c.minus-f.ensures (base e.before)
-
-pub returns-then-not-follows : goal.returns-then-not-follows
-unfolding next_turn
-returns-then-not-follows c = let t = (goal.at.returns-then-not-follows c).After-turned-t in rw (near t.before, c.if-not-follows.true, turn t)
-
+-- the unit ahead, where there is one
 pub fold_kept-requires : goal.fold_kept-requires
 fold_kept-requires c =
-    let t = (goal.at.fold_kept-requires c).After-turned-t in
-    subst (FoldReady c.args.a c.args.ahead c.args.u) (sym (turn t))
-    (record { lead = c.requires.lead; unit = drawn_again c.requires.unit _ (near t.before) })
+    let m = (goal.at.fold_kept-requires c).After-moves_too_far in
+    let a = c.in-Some.lead in
+    subst (FoldReady a.unit a.d c.args.u) (sym (turn m c.turned-t.ensures))
+    (record { lead = subst (λ (z : Option Lead). AheadDrawn (ahead_of z)) c.in-Some.is c.requires.lead; unit = drawn_again c.requires.unit _ (far m c.if-moves_too_far.false) })
 
-kept : (c : After-turned-t) {t : Bool} → let a = behind c.args.a c.args.ahead in
-    t ≡ fold_kept a c.args.u c.turned-t.result → fold_kept a c.args.u (turned_by c.args.d (f c.before.before) (wheelbase_of c.args.u)) ≡ t
-kept c e = sym (e ∙ ap (fold_kept (behind c.args.a c.args.ahead) c.args.u) (turn c))
-
-pub returns-then-fold_kept : goal.returns-then-fold_kept
+pub returns-then-not-fold_kept : goal.returns-then-not-fold_kept
 unfolding next_turn
-returns-then-fold_kept c =
-    let t = (goal.at.returns-then-fold_kept c).After-turned-t in
-    rw (near t.before, c.if-not-follows.false, kept t c.fold_kept.ensures ∙ c.if-fold_kept.true, turn t)
+returns-then-not-fold_kept c =
+    let m = (goal.at.returns-then-not-fold_kept c).After-moves_too_far in
+    let a = c.in-Some.lead in
+    let t = turn m c.turned-t.ensures in
+    rw (c.in-Some.is, far m c.if-moves_too_far.false, kept m (behind a.unit a.d) t c.fold_kept.ensures ∙ c.if-not-fold_kept.true)
 
-pub returns : goal.returns
+pub returns-else-not-fold_kept : goal.returns-else-not-fold_kept
 unfolding next_turn
-returns c =
-    let t = (goal.at.returns c).After-turned-t in
-    rw (near t.before, c.if-not-follows.false, kept t c.fold_kept.ensures ∙ c.if-fold_kept.false)
+returns-else-not-fold_kept c =
+    let m = (goal.at.returns-else-not-fold_kept c).After-moves_too_far in
+    let a = c.in-Some.lead in
+    let t = turn m c.turned-t.ensures in
+    rw (c.in-Some.is, far m c.if-moves_too_far.false, kept m (behind a.unit a.d) t c.fold_kept.ensures ∙ c.if-not-fold_kept.false, t)
+
+-- none is ahead of the first
+alone : (a : Option Lead) → ((l : Lead) → a ≡ Some l → ⊥) → ahead_of a ≡ none
+alone None h = refl
+alone (Some l) h = absurd (h l refl)
+
+pub returns-in_default : goal.returns-in_default
+unfolding next_turn
+returns-in_default c =
+    let m = (goal.at.returns-in_default c).After-moves_too_far in
+    rw (alone c.args.ahead c.in_default.not-Some, far m c.if-moves_too_far.false, turn m c.turned-t.ensures)

@@ -6,7 +6,7 @@ use lib.ListN.{length, take, get_or, set}
 use Rattle.plane.specs.declared.Vec2.{Vec2}
 use Rattle.job.specs.Empty.{empty_unit}
 use Rattle.job.proofs.Arrays.{unmapped}
-use Rattle.walk.specs.Units.{none, turn_units}
+use Rattle.walk.specs.Units.{none, behind, turn_units}
 use Rattle.walk.proofs.UnitsLaws.{UnitsLeft, turn_ready, stopped_here, hitch_to, units_next, units_done}
 use Rattle.walk.proofs.units.turn_units.Goals as goal
 use Rattle.walk.proofs.units.turn_units.Goals.{Start}
@@ -40,7 +40,7 @@ loop-i-preserved c =
     let v = c.args.v in
     let x = c.in-Ok.x in
     let whole = turn_units 1 none (take v.count v.units) c.args.d c.args.old c.args.new in
-    let L : Vec2 → Vec2 → Type 0 = λ p q. UnitsLeft v c.args.d whole (c.loop-i.i + 1) (set c.loop-i.turned c.loop-i.i x) p q (get_or v.units c.loop-i.i empty_unit) x in
+    let L : Vec2 → Vec2 → Type 0 = λ p q. UnitsLeft v c.args.d whole (c.loop-i.i + 1) (set c.loop-i.turned c.loop-i.i x) p q (behind (get_or v.units c.loop-i.i empty_unit) x) in
     subst₂ L (sym c.hitch_at-from.ensures) (sym c.hitch_at-to.ensures)
     (units_next c.loop-i.invariant c.requires.rig (units s) (vectors s) c.loop-i-test.true x c.in-Ok.ensures)
 
