@@ -8,7 +8,7 @@ use borrow.Author.Tests.{leb-true, eq-eqb}
 use lib.Dec.{leb, eqb}
 use lib.ListN.{set, get_or, take}
 use lib.Seq.{take-set-lt, get_or-take}
-use Rattle.number.proofs.FieldCodec.{both, and}
+use Rattle.std.proofs.lemmas.Bool.{and_parts, and_from}
 use Rattle.job.specs.declared.Unit.{Unit as VehicleUnit}
 use Rattle.job.specs.declared.Form.{Form}
 use Rattle.job.specs.declared.Vehicle.{Vehicle}
@@ -39,7 +39,7 @@ fault_set one t (x ∷ xs) (suc i) y z f h =
 
 -- the last unit's hitch is 0 whatever its wheelbase is
 pub unit_kept : (first : Bool) (u : VehicleUnit) (w : ℕ) → wheelbase_allowed w ≡ true → unit_allowed first true u ≡ true → unit_allowed first true (unit_set u w) ≡ true
-unit_kept first u w h k = and h (both (wheelbase_allowed u.wheelbase) (hitch_allowed true u.wheelbase u.hitch && fold_allowed first u.fold) k).1
+unit_kept first u w h k = and_from _ _ h (and_parts (wheelbase_allowed u.wheelbase) (hitch_allowed true u.wheelbase u.hitch && fold_allowed first u.fold) k).1
 
 last_kept : (form : Form) (count k : ℕ) (u : VehicleUnit) (w : ℕ) → k + 1 ≡ count → wheelbase_allowed w ≡ true → unit_fault_at form count k u ≡ 0 → unit_fault_at form count k (unit_set u w) ≡ 0
 last_kept form count k u w e h f =
@@ -60,7 +60,7 @@ units_kept form count us w l h f =
 pub kept_vehicle : (v : Vehicle) (w : ℕ) → vehicle_fault v ≡ 0 → wheelbase_allowed w ≡ true → vehicle_fault (vehicle_set v w) ≡ 0
 kept_vehicle v w f h =
     let s = sound_vehicle v f in
-    let least = leb-true 1 v.count (both (leb 1 v.count) (leb v.count 4) s.count).0 in
+    let least = leb-true 1 v.count (and_parts (leb 1 v.count) (leb v.count 4) s.count).0 in
     vehicle_sound_lem (vehicle_set v w) (record { count = s.count; units = units_kept v.form v.count v.units w least h s.units; widths = s.widths })
 
 pub kept_job : (j : Job) (w : ℕ) → judge j ≡ 0 → wheelbase_allowed w ≡ true → judge (job_set j w) ≡ 0

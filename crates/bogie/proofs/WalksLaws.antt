@@ -5,7 +5,7 @@ use mathlib.Core.Bool.{true}
 use native.Mathlib.Numerals.{add-one}
 use borrow.Author.Tests.{eq-eqb, eqb-true, leb-true}
 use lib.Dec.{leb, eqb}
-use Rattle.number.proofs.FieldCodec.{both}
+use Rattle.std.proofs.lemmas.Bool.{and_parts}
 use Rattle.job.specs.declared.Vehicle.{Vehicle}
 use Rattle.job.specs.Faults.{vehicle_fault}
 use Rattle.job.proofs.FaultLaws.{sound_vehicle}
@@ -88,5 +88,5 @@ none_listed run at = refl
 pub last_unit : (v : Vehicle) → vehicle_sound v ≡ true → LastUnit v
 unfolding vehicle_sound
 last_unit v h =
-    let s = both (leb 1 v.count) (leb v.count 4) (sound_vehicle v (eqb-true (vehicle_fault v) 0 h)).count in
+    let s = and_parts (leb 1 v.count) (leb v.count 4) (sound_vehicle v (eqb-true (vehicle_fault v) 0 h)).count in
     record { least = leb-true 1 v.count s.0; most = leb-true v.count 4 s.1 }

@@ -1,1 +1,2 @@
 pub mod OfferedLaws
+pub mod SameAnswers

@@ -16,6 +16,7 @@ use reaches::ReachRoom;
 use refusal::{Fault, Refusal};
 
 // The record's refusal, with the byte where the field starts; or the list's, which names none.
+// Kept: the new form is no plainer: this is the error of a Result already, and its two kinds hold different values.
 #[derive(Clone, Copy, PartialEq, Eq)]
 pub enum OfferRefusal {
     Record(Refusal),

@@ -1,3 +1,4 @@
 pub mod EnterLaws
 pub mod OrderLaws
 pub mod RankLaws
+pub mod SameAnswers

@@ -4,3 +4,4 @@ pub mod CourseLaws
 pub mod OverLaws
 pub mod RunLaws
 pub mod Witnesses
+pub mod SameAnswers

@@ -1,13 +1,13 @@
 -- The answers of a whole job: a fault, a run too short, and a walk over the path that was laid.
-use Prim.Native.Nat.{ℕ, zero, suc, ◌+◌, ◌<◌}
+use Prim.Native.Nat.{ℕ, zero, suc, ◌<◌}
 use mathlib.Core.Path.{◌≡◌, refl, sym, ◌∙◌, ap, subst, subst₂}
 use mathlib.Core.Bool.{Bool, true, false, ◌&&◌}
 use native.Mathlib.Omega.{arith}
 use borrow.Author.Tests.{eq-eqb, ne_eqb, eqb-true, le-leb}
 use lib.Dec.{eqb}
-use lib.ListN.{length, take}
+use lib.ListN.{length}
+use Rattle.std.proofs.lemmas.Bool.{and_from}
 use Rattle.number.specs.Read.{pick}
-use Rattle.number.proofs.FieldCodec.{and}
 use Rattle.job.specs.declared.Job.{Job}
 use Rattle.job.specs.Faults.{judge, vehicle_fault}
 use Rattle.job.proofs.FaultLaws.{sound}
@@ -15,7 +15,7 @@ use Rattle.path.specs.declared.Station.{Station}
 use Rattle.std.specs.Prelude.{Ok, Err}
 use Rattle.refusal.specs.Numbers.{Answer, answered, refused as refused_by_number, number_of}
 use Rattle.refusal.specs.declared.Fault.{Fault}
-use Rattle.path.specs.Stations.{step_total, stations}
+use Rattle.path.specs.Stations.{stations}
 use Rattle.path.specs.Laying.{PathRuns, room_for, written, lay_answer, laid_runs, LayEnsures}
 use Rattle.path.specs.LaidPath.{job_station}
 use Rattle.path.proofs.JobLaws.{stations_answered, stations_count}
@@ -31,10 +31,6 @@ use Rattle.run.specs.Ran.{Ran}
 use Rattle.run.specs.Ran as R
 use Rattle.run.specs.Walking.{Course}
 use Rattle.run.specs.Run.{ran_over, walk_over, run_refusal, ran_answer, job_path, job_course, RunEnsures, Runnable, OverEnsures}
-
--- the stations that runs are tested for before a path is laid are the job's
-pub counted : (j : Job) (n : ℕ) → n ≡ step_total j.step 0 (take j.count j.elements) → n + 1 ≡ length (stations j)
-counted j n e = ap (λ (m : ℕ). m + 1) e ∙ sym (stations_count j)
 
 -- refused: nothing is written
 refused_by : (j : Job) (p : PathRuns) (r : Reaches) (n : ℕ) → run_refusal j p r ≡ suc n → RunEnsures j p r (R.refused (suc n)) p r
@@ -122,7 +118,7 @@ module _ (j : Job) (p : PathRuns) (m : ℕ) (q : PathRuns) (t : LayEnsures j p (
       let k = sound_path j s.0 in
       let least = le-leb 1 m (omega (arith, s.2, stations_count j)) in
       let most = le-leb m 2001 (omega (arith, s.2, k.most)) in
-      record { lent = and (and (and least most) laid_room) e; path = all_sound q m laid_station; vehicle = job_vehicle }
+      record { lent = and_from _ _ (and_from _ _ (and_from _ _ least most) laid_room) e; path = all_sound q m laid_station; vehicle = job_vehicle }
 
   -- the whole job, from a walk over the path that was laid
   pub run_done : (r : Reaches) (answer : Ran) (after : Reaches) → reaches_lent m (lengths_of r) ≡ true → OverEnsures m q j.vehicle r answer after → RunEnsures j p r answer q after

@@ -108,7 +108,7 @@ pub fn run_over(
     }
 }
 
-// A whole job on seven lent runs; a refusal writes nothing.
+// A whole job on seven lent runs; refused before any step, nothing is written.
 pub fn run(j: Job, path_room: &mut PathRoom, room: &mut ReachRoom) -> Result<Finish, RunRefusal>
     ensures path_loans { SamePathLoans path_room.old path_room.new }
     ensures loans { SameLoans room.old room.new }

@@ -36,7 +36,7 @@ pub room_of : (asked : ℕ) (p : PathRuns) (r : Reaches) → lent (call_of asked
 room_of asked p r e = let l = (lent_call (call_of asked p r) e).1 in record { left = l.left; right = l.right; marks = l.marks }
 
 -- the points of a rig, as those who measure ask them
-sized : {v : Vehicle} {ds : List Vec2} {f : Vec2} → RigAt v ds f → (k : ℕ) → SizedPoint (get_or (rig_points v ds f) k zero_vector)
+pub sized : {v : Vehicle} {ds : List Vec2} {f : Vec2} → RigAt v ds f → (k : ℕ) → SizedPoint (get_or (rig_points v ds f) k zero_vector)
 sized a k = let p = points_sized a k in record { x = p.x; y = p.y }
 
 -- as many of an array of points as the vehicle has

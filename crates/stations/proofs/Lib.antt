@@ -4,3 +4,4 @@ pub mod PlaceLaws
 pub mod StepLaws
 pub mod Entering
 pub mod Witnesses
+pub mod SameAnswers

@@ -7,7 +7,7 @@ use native.Mathlib.Omega.{arith}
 use lib.ListN.{length, get_or, length-take}
 use lib.Seq.{get_or-take}
 use lib.IntN.{pos, ◌*ℤ◌}
-use Rattle.number.proofs.FieldCodec.{both}
+use Rattle.std.proofs.lemmas.Bool.{and_parts}
 use Rattle.plane.specs.declared.Vec2.{Vec2}
 use Rattle.plane.specs.Length.{has_length, Near}
 use Rattle.plane.proofs.Lengths.{near_of}
@@ -29,7 +29,7 @@ unfolding vector_sound vectors_sound
 all_of_length [] ds e = tt
 all_of_length (u ∷ us) [] e = absurd (let y : ◌≡◌ {A = ℕ} 0 1 = cc in omega arith)
 all_of_length (u ∷ us) (d ∷ ds) e =
-    let b = both (has_length d (wheelbase_of u)) (vectors_sound us ds) e in
+    let b = and_parts (has_length d (wheelbase_of u)) (vectors_sound us ds) e in
     (near_of d (wheelbase_of u) b.0, all_of_length us ds b.1)
 
 pub sound_keeping : (asked : ℕ) (s : Drawn) → record_sound asked s ≡ true → Keeping s

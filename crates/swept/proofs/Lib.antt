@@ -1,2 +1,3 @@
 pub mod RangeLaws
 pub mod SweptLaws
+pub mod SameAnswers

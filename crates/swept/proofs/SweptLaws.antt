@@ -6,11 +6,11 @@ use mathlib.Core.List.{List}
 use mathlib.Core.Logic.{inl, inr}
 use borrow.Author.Tests.{le-leb, eq-eqb}
 use lib.ListN.{length}
+use Rattle.std.proofs.lemmas.Bool.{and_from}
 use Rattle.std.specs.Prelude.{Result, Ok, Err, MatchResult, IsErrAnd}
 use Rattle.refusal.specs.Numbers.{number_of}
 use Rattle.refusal.specs.declared.Refusal.{Refusal}
 use Rattle.number.specs.Read.{Bytes, Read, got, refused, pick}
-use Rattle.number.proofs.FieldCodec.{and}
 use Rattle.job.specs.declared.Job.{Job}
 use Rattle.job.specs.Faults.{judge}
 use Rattle.job_reader.specs.Record.{read_job}
@@ -40,11 +40,11 @@ module _ (j : Job) (sound : judge j ≡ 0) where
 
   path_room_lem : room_for asked empty_path ≡ true
   unfolding empty_path
-  path_room_lem = let e = le-leb asked 2001 (sound_path j sound).most in and e (and e (and e e))
+  path_room_lem = let e = le-leb asked 2001 (sound_path j sound).most in and_from _ _ e (and_from _ _ e (and_from _ _ e e))
 
   reaches_room : reaches_lent asked (lengths_of empty_reaches) ≡ true
   unfolding empty_reaches
-  reaches_room = let e = le-leb asked 2001 (sound_path j sound).most in and e (and e e)
+  reaches_room = let e = le-leb asked 2001 (sound_path j sound).most in and_from _ _ e (and_from _ _ e e)
 
   pub run_passes : run_refusal j empty_path empty_reaches ≡ 0
   run_passes = all_passed j empty_path empty_reaches sound path_room_lem reaches_room

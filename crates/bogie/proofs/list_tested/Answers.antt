@@ -6,9 +6,9 @@ use borrow.Author.Tests.{leb-true}
 use mathlib.Core.Bool.{◌&&◌}
 use lib.Dec.{leb}
 use lib.ListN.{length}
+use Rattle.std.proofs.lemmas.Bool.{and_parts}
 use Rattle.std.proofs.lemmas.Result.{err_from_is_err_and}
 use Rattle.number.specs.Read.{pick}
-use Rattle.number.proofs.FieldCodec.{both}
 use Rattle.job.specs.Faults.{or_fault, first_of}
 use Rattle.job.proofs.Arrays.{unmapped}
 use Rattle.job.proofs.FaultLaws.{sound, numbered}
@@ -28,7 +28,7 @@ returns-in_err-judge c =
     rw (p.1, p.2) (e ∙ fault_first c.args.j c.args.rail (room_runs c.args.path_room.now) (room_reaches c.args.room.now) (λ z. numbered _ (e ∙ z)))
 
 pub shared_ref_as_front-step_count : goal.shared_ref_as_front-step_count
-shared_ref_as_front-step_count c = leb-true c.args.j.count 64 (both (leb 1 c.args.j.count) _ (sound c.args.j (sym c.in_ok-judge.ensures)).count).1
+shared_ref_as_front-step_count c = leb-true c.args.j.count 64 (and_parts (leb 1 c.args.j.count) _ (sound c.args.j (sym c.in_ok-judge.ensures)).count).1
 
 pub step_count-stations-requires : goal.step_count-stations-requires
 step_count-stations-requires c =

@@ -7,22 +7,22 @@ use borrow.Author.Rules.{rules}
 use borrow.Author.Tests.{leb-true}
 use lib.Dec.{leb}
 use lib.ListN.{length, take}
+use Rattle.std.proofs.lemmas.Bool.{and_parts}
 use Rattle.std.specs.Prelude.{Ok}
-use Rattle.number.proofs.FieldCodec.{both}
 use Rattle.job.specs.declared.Job.{Job}
 use Rattle.job.proofs.Arrays.{unmapped}
 use Rattle.job.proofs.FaultLaws.{sound, numbered}
 use Rattle.path.specs.Stations.{step_total}
 use Rattle.path.specs.Laying.{PathRuns, LayEnsures}
 use Rattle.path.specs.Lent.{room_runs}
-use Rattle.path.proofs.JobLaws.{accepted, stations_answered}
+use Rattle.path.proofs.JobLaws.{accepted, counted, stations_answered}
 use Rattle.walk.specs.Tests.{reaches_lent}
 use Rattle.reaches.specs.Cells.{Reaches, lengths_of}
 use Rattle.reaches.specs.Lent.{room_reaches}
 use Rattle.stations.specs.Placing.{call_of}
 use Rattle.run.specs.Ran.{refused, as_ran}
 use Rattle.run.specs.Run.{RunEnsures, Runnable, OverEnsures}
-use Rattle.run.proofs.RunLaws.{counted, run_fault, reaches_short, path_short, runnable, run_done}
+use Rattle.run.proofs.RunLaws.{run_fault, reaches_short, path_short, runnable, run_done}
 use Rattle.run.proofs.run.Goals as goal
 
 -- as many as were laid
@@ -38,7 +38,7 @@ returns-in-Err-clause-ran c =
     subst (λ (n : ℕ). RunEnsures j p r (refused n) p r) (sym c.in-Err.ensures) (run_fault j p r (λ e. numbered c.in-Err.fault (c.in-Err.ensures ∙ e)))
 
 pub shared_ref_as_front-step_count : goal.shared_ref_as_front-step_count
-shared_ref_as_front-step_count c = leb-true c.args.j.count 64 (both (leb 1 c.args.j.count) _ (sound c.args.j (sym c.in_default.ensures)).count).1
+shared_ref_as_front-step_count c = leb-true c.args.j.count 64 (and_parts (leb 1 c.args.j.count) _ (sound c.args.j (sym c.in_default.ensures)).count).1
 
 pub step_count-stations-requires : goal.step_count-stations-requires
 step_count-stations-requires c =
