@@ -7,9 +7,9 @@ use borrow.Author.Count.{below_more}
 use lib.ListN.{length, get_or}
 use lib.IntN.{ℤ}
 use lib.Signed.{◌≤ℤ◌, ◌<ℤ◌, lt_z, lt_z_yes, mag}
+use Rattle.std.proofs.lemmas.Bool.{and_parts}
 use Rattle.exact.proofs.Order.{of_true}
 use Rattle.exact.proofs.Machine.{reread, reread_result}
-use Rattle.number.proofs.FieldCodec.{both}
 use Rattle.plane.specs.declared.Vec2.{Vec2}
 use Rattle.touching.specs.Touch.{touches}
 use Rattle.touching.proofs.Shadows.{some_of}
@@ -38,10 +38,10 @@ pub none_beyond : (b : Bounds) (v w : Vec2) → beyond b v w ≡ true → (old n
 unfolding beyond
 none_beyond b v w e old new i j =
     some_of _ _ _ _ e
-    (λ h. let k = both (lt_z v.x b.west) (lt_z w.x b.west) h in apart_x old new v w (second_below (less k.0) (less k.1) i.west j.west))
-    (λ h. let k = both (lt_z b.east v.x) (lt_z b.east w.x) h in apart_x old new v w (second_above (less k.0) (less k.1) i.east j.east))
-    (λ h. let k = both (lt_z v.y b.south) (lt_z w.y b.south) h in apart_y old new v w (second_below (less k.0) (less k.1) i.south j.south))
-    (λ h. let k = both (lt_z b.north v.y) (lt_z b.north w.y) h in apart_y old new v w (second_above (less k.0) (less k.1) i.north j.north))
+    (λ h. let k = and_parts (lt_z v.x b.west) (lt_z w.x b.west) h in apart_x old new v w (second_below (less k.0) (less k.1) i.west j.west))
+    (λ h. let k = and_parts (lt_z b.east v.x) (lt_z b.east w.x) h in apart_x old new v w (second_above (less k.0) (less k.1) i.east j.east))
+    (λ h. let k = and_parts (lt_z v.y b.south) (lt_z w.y b.south) h in apart_y old new v w (second_below (less k.0) (less k.1) i.south j.south))
+    (λ h. let k = and_parts (lt_z b.north v.y) (lt_z b.north w.y) h in apart_y old new v w (second_above (less k.0) (less k.1) i.north j.north))
   where
     less : {x y : ℤ} → lt_z x y ≡ true → x <ℤ y
     less h = lt_z_yes (of_true h)

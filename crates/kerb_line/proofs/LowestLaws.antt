@@ -6,6 +6,7 @@ use mathlib.Core.List.{List, [], ◌∷◌}
 use native.Mathlib.Omega.{arith}
 use lib.ListN.{length, take}
 use lib.Seq.{get_or-take, length-take-le}
+use Rattle.std.proofs.lemmas.Bool.{or_from, or_right}
 use Rattle.std.specs.Prelude.{Option, Some, None}
 use Rattle.std.specs.Option.{unwrap_or, option_or}
 use Rattle.plane.specs.declared.Vec2.{Vec2}
@@ -13,25 +14,18 @@ use Rattle.kerb_line.specs.Contact.{Segment, lowest_from}
 use Rattle.kerb_line.specs.Kerb.{origin}
 use Rattle.kerb_line.specs.Inner.{LowestAt, LowestOf, move_touches, move_touches_one, Testable}
 
-or_false : (s : Bool) {t : Bool} → s ≡ false → t ≡ false → (s || t) ≡ false
-or_false s p q = rw (p, q)
-
-or_second : (s : Bool) {t : Bool} → t ≡ true → (s || t) ≡ true
-or_second true q = refl
-or_second false q = q
-
 -- what is found below the lowest so far, or else the lowest so far, is the lowest of both
 module _ (n : ℕ) (f g : ℕ → Bool) where
   first_found : (r : ℕ) → LowestAt n f r → ((p : ℕ) → p < r → g p ≡ false) → LowestAt n (λ p. f p || g p) r
-  first_found r a h = record { below = a.below; here = rw a.here; before = λ p l. or_false (f p) (a.before p l) (h p l) }
+  first_found r a h = record { below = a.below; here = rw a.here; before = λ p l. or_from (f p) _ (a.before p l) (h p l) }
 
   second_found : (m s : ℕ) → m ≤ n → ((p : ℕ) → p < m → f p ≡ false) → LowestAt m g s → LowestAt n (λ p. f p || g p) s
   second_found m s k h b =
       let l = b.below in
-      record { below = omega arith; here = or_second (f s) b.here; before = λ p q. or_false (f p) (h p (omega arith)) (b.before p q) }
+      record { below = omega arith; here = or_right (f s) _ b.here; before = λ p q. or_from (f p) _ (h p (omega arith)) (b.before p q) }
 
   pub lowest_of_both : (o q : Option ℕ) → LowestOf n f o → LowestOf (unwrap_or o n) g q → LowestOf n (λ p. f p || g p) (option_or q o)
-  lowest_of_both None None a b = λ p l. or_false (f p) (a p l) (b p l)
+  lowest_of_both None None a b = λ p l. or_from (f p) _ (a p l) (b p l)
   lowest_of_both (Some r) None a b = first_found r a b
   lowest_of_both None (Some s) a b = second_found n s (omega arith) a b
   lowest_of_both (Some r) (Some s) a b = let l = a.below in second_found r s (omega arith) a.before b

@@ -45,12 +45,10 @@ pub fn kerb_sound(kerb: Kerb) -> bool
     ensures { result ≡ kerb_sound kerb.entry.count (runs_of kerb.entry) }
 {
     let n = kerb.count;
-    for (x, y) in kerb.xs[..n].iter().zip(&kerb.ys[..n]) {
-        if !vertex_sound(*x, *y) {
-            return false;
-        }
-    }
-    true
+    kerb.xs[..n]
+        .iter()
+        .zip(&kerb.ys[..n])
+        .all(|(x, y)| vertex_sound(*x, *y))
 }
 
 // The lowest of the points whose move touches or crosses a segment of the kerb, if one does.

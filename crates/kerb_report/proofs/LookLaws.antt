@@ -7,8 +7,8 @@ use native.Mathlib.Omega.{arith}
 use borrow.Author.Tests.{le-leb}
 use lib.ListN.{length, get_or, take}
 use lib.Seq.{sets}
+use Rattle.std.proofs.lemmas.Bool.{and_from}
 use Rattle.std.specs.Prelude.{Option, Some, None, Err}
-use Rattle.number.proofs.FieldCodec.{and}
 use Rattle.plane.specs.declared.Vec2.{Vec2}
 use Rattle.job.specs.declared.Vehicle.{Vehicle}
 use Rattle.path.specs.Laying.{PathRuns}
@@ -46,7 +46,7 @@ use Rattle.kerb_report.specs.Requires.{Ahead, Steppable, OnPath}
 -- runs as long as the stations asked for pass 21
 pub over_lent : (asked : ℕ) (path : PathRuns) → path_lent asked path ≡ true → lent (call_over asked path) ≡ true
 unfolding lent
-over_lent asked path e = let l = le-leb asked asked (omega arith) in and e (and l (and l l))
+over_lent asked path e = let l = le-leb asked asked (omega arith) in and_from _ _ e (and_from _ _ l (and_from _ _ l l))
 
 module _ (asked : ℕ) (path : PathRuns) (kerb : List Vec2) where
   pub look_end : (s : Drawn) → asked ≤ s.station + 1 → look_ahead (steps_left asked s) asked path kerb s ≡ R.nothing

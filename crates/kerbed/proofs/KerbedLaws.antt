@@ -6,12 +6,12 @@ use mathlib.Core.List.{List}
 use mathlib.Core.Logic.{inl, inr}
 use native.Mathlib.Omega.{arith}
 use lib.ListN.{length}
+use Rattle.std.proofs.lemmas.Bool.{and_parts}
 use Rattle.std.specs.Prelude.{Option, Some, None, Result, Ok, Err}
 use Rattle.std.specs.Result.{MatchResult, IsErrAnd}
 use Rattle.refusal.specs.Numbers.{answered, refused as turned_down, number_of}
 use Rattle.refusal.specs.declared.Fault.{Fault}
 use Rattle.number.specs.Read.{pick}
-use Rattle.number.proofs.FieldCodec.{both}
 use Rattle.plane.specs.declared.Vec2.{Vec2}
 use Rattle.job.specs.declared.Job.{Job}
 use Rattle.job.specs.Faults.{judge}
@@ -146,7 +146,7 @@ module _ (j : Job) (sound : judge j ≡ 0) where
     unfolding lent
     placeable =
         let r = runnable j empty_path m q t empty_reaches reaches_lent_lem in
-        record { lent = (both (path_lent m q) (reaches_lent m (lengths_of empty_reaches)) r.lent).0; path = r.path; vehicle = r.vehicle }
+        record { lent = (and_parts (path_lent m q) (reaches_lent m (lengths_of empty_reaches)) r.lent).0; path = r.path; vehicle = r.vehicle }
 
     rig_sound : record_sound m (placed_rig j q) ≡ true
     rig_sound =

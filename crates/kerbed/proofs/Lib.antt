@@ -1,2 +1,3 @@
 pub mod KerbedLaws
 pub mod SurveyLaws
+pub mod SameAnswers

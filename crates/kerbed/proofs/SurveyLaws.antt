@@ -8,10 +8,10 @@ use native.Mathlib.Omega.{arith}
 use borrow.Author.Tests.{le-leb}
 use lib.ListN.{length}
 use lib.IntN.{ℤ}
+use Rattle.std.proofs.lemmas.Bool.{and_from}
 use Rattle.std.specs.Prelude.{Ok, Err}
 use Rattle.refusal.specs.Numbers.{number_of}
 use Rattle.number.specs.Read.{Read, got, refused, pick}
-use Rattle.number.proofs.FieldCodec.{and}
 use Rattle.job.specs.declared.Job.{Job}
 use Rattle.job.specs.Faults.{judge}
 use Rattle.job_reader.specs.Answers.{ReadEnsures}
@@ -64,7 +64,7 @@ module _ (j : Job) where
   survey_fits s (got g e) q n k =
       let w = read_within_lem s g e q in
       let l = le-leb (length (vertices_of g)) 500 (omega (arith, count_is g w, w.most)) in
-      no_room (room_in (length (vertices_of g)) no_ticks no_ticks) g n (and l l) k
+      no_room (room_in (length (vertices_of g)) no_ticks no_ticks) g n (and_from _ _ l l) k
   survey_fits s (refused m p) q n k = clash cc
 
 -- ---- a kerb that was read is let pass
@@ -72,13 +72,13 @@ module _ (j : Job) where
 vertices_sound : (k : KerbRuns) (n : ℕ) → ((i : ℕ) → i < n → vertex_sound (vertex_at k i) ≡ true) → kerb_sound n k ≡ true
 unfolding kerb_sound
 vertices_sound k zero h = refl
-vertices_sound k (suc n) h = and (vertices_sound k n (λ i l. h i (omega arith))) (h n (omega arith))
+vertices_sound k (suc n) h = and_from _ _ (vertices_sound k n (λ i l. h i (omega arith))) (h n (omega arith))
 
 within_passes : (n : ℕ) (xs ys : List ℤ) → KerbWithin n xs ys → (kerb_lent n (kerb_runs xs ys) ≡ true) × (kerb_sound n (kerb_runs xs ys) ≡ true)
 unfolding kerb_lent
 within_passes n xs ys w = (
-  and (and (le-leb 1 n w.least) (le-leb n 500 w.most)) (and (le-leb n (length xs) w.east_room) (le-leb n (length ys) w.north_room)),
-  vertices_sound (kerb_runs xs ys) n (λ i l. and (le-leb _ 150000000 (w.east i l).size) (le-leb _ 150000000 (w.north i l).size)),
+  and_from _ _ (and_from _ _ (le-leb 1 n w.least) (le-leb n 500 w.most)) (and_from _ _ (le-leb n (length xs) w.east_room) (le-leb n (length ys) w.north_room)),
+  vertices_sound (kerb_runs xs ys) n (λ i l. and_from _ _ (le-leb _ 150000000 (w.east i l).size) (le-leb _ 150000000 (w.north i l).size)),
 )
 
 pub read_passes_lem : ReadPasses
