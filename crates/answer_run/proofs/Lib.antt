@@ -1,4 +1,3 @@
-pub mod EntryLaws
 pub mod AnswerLaws
 pub mod BareLaws
 pub mod Witnesses

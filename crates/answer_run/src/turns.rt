@@ -15,11 +15,11 @@ fn tell<const N: usize>(turn: Result<[i64; N], Fault>, answer: &mut [i64]) -> u3
     ensures { Answered N (told_of (as_answer turn.entry)) answer.old result answer.new }
 {
     if answer.len() < N {
-        return u32::from(Fault::RunTooShort.number());
+        return crate::too_short();
     }
     match turn {
         Ok(entries) => {
-            answer[..N].copy_from_slice(&entries);
+            crate::put_entries(answer, 0, entries);
             0
         }
         Err(fault) => u32::from(fault.number()),
@@ -39,7 +39,7 @@ fn vector_entries(d: Vec2) -> [i64; 2]
 }
 
 // The path turn by itself: 0 with the new heading and the move, or 21, 6, 7 or 8.
-// Kept: two numbers for the heading, as the C interface needs it: it hands over each coordinate by itself.
+// Kept: the new form is no plainer: the one caller, the C interface, has two numbers, and a `Vec2` of them would be made there in place of here.
 pub fn path_turn(gx: i64, gy: i64, s: u32, r: i32, answer: &mut [i64]) -> u32
     ensures { Answered 4 (path_told (path_turn (record { x = gx; y = gy }) s r)) answer.old result answer.new }
 {

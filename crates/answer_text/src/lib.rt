@@ -3,12 +3,12 @@
 
 pub mod settings;
 
-ghost use Rattle.std.specs.Prelude.{◌≡◌, ◌≤◌, ◌++◌, ◌+◌, length, take};
+ghost use Rattle.std.specs.Prelude.{◌≡◌, ◌≤◌, ◌++◌, ◌+◌, Err, length, take};
 ghost use Rattle.text.specs.Decimal.{decimal, signed_decimal};
 ghost use Rattle.swept.specs.Answers.{as_swept};
-ghost use Rattle.answer_text.specs.Printed.{steps_line, place_line, widest_line, front_line, finished_lines, refused_line, stopped_line};
+ghost use Rattle.answer_text.specs.Printed.{steps_line, place_line, widest_line, front_line, finished_lines, refused_line, stopped_line, printed};
 ghost use Rattle.answer_text.specs.Appending.{nothing, Line};
-ghost use Rattle.answer_text.specs.Answers.{TextEnsures};
+ghost use Rattle.answer_text.specs.Answers.{TextIs, TextEnsures};
 ghost use Rattle.answer_text.specs.Inner.{Space};
 ghost use Rattle.answer_text.specs.Forms.{PrintedForms};
 
@@ -128,7 +128,7 @@ fn finished_text(f: Finish) -> Text
         .put_front(f.front)
 }
 
-// Kept: the new form is no plainer: a refusal is printed as a number, and a narrower type would ask more of callers.
+// Kept: the new form is no plainer: the number is printed as a number, and a `Fault` in its place would ask more of callers.
 pub fn refused_text(number: u8, byte: usize) -> Text
     ensures { Line nothing (refused_line number byte) 53 result }
 {
@@ -151,18 +151,23 @@ pub fn stopped_text(number: u8, unit: usize, step: usize) -> Text
         .put_words(b"\n")
 }
 
+// Why a job has no answer, as the line that is printed in its place.
+pub fn refusal_text(refusal: SweepRefusal) -> Text
+    ensures { TextIs (printed (as_swept (Err refusal))) result }
+{
+    match refusal {
+        SweepRefusal::Stopped(stop) => stopped_text(stop.fault.number(), stop.unit, stop.step),
+        SweepRefusal::Refused(refused) => refused_text(refused.fault.number(), refused.place),
+    }
+}
+
 // Any answer's lines: the widest of them fit.
 pub fn text_of(s: Result<Finish, SweepRefusal>) -> Text
     ensures { TextEnsures (as_swept s) result }
 {
     match s {
         Ok(f) => finished_text(f),
-        Err(SweepRefusal::Stopped(stop)) => {
-            stopped_text(stop.fault.number(), stop.unit, stop.step)
-        }
-        Err(SweepRefusal::Refused(refusal)) => {
-            refused_text(refusal.fault.number(), refusal.place)
-        }
+        Err(refusal) => refusal_text(refusal),
     }
 }
 

@@ -1,6 +1,8 @@
 -- What the functions that are no entries require of their callers.
 use Rattle.std.specs.Prelude.{ℕ}
 use Rattle.run.specs.declared.Finish.{Finish}
+use Rattle.swept.specs.declared.SweepRefusal.{SweepRefusal}
+use Rattle.swept.specs.declared.SweepRefusal.TheVariants as R
 use Rattle.swept.specs.Answers.{Swept}
 use Rattle.swept.specs.Answers as S
 use Rattle.swept.specs.Ranges.{FinishedSo}
@@ -21,6 +23,11 @@ SweptFits (S.refused n p) = ByteFits p
 pub record AnswerFits (a : Swept) (n : ℕ) : Type 0 where
   pub room : Room 0 8 n
   pub ranges : SweptFits a
+
+-- why there is no answer
+abbrev pub RefusalFits : SweepRefusal → Type 0
+RefusalFits (R.Stopped s) = UnitFits s.unit s.step
+RefusalFits (R.Refused r) = ByteFits r.place
 
 abbrev pub OfferedFits : Offered → Type 0
 OfferedFits (O.listed l) = Unit {0}

@@ -3,28 +3,16 @@
 
 pub mod lists;
 
-ghost use Rattle.std.specs.Prelude.{◌≡◌, [], ◌∷◌, length};
+ghost use Rattle.std.specs.Prelude.{◌≡◌, length};
 ghost use Rattle.std.proofs.lemmas.List.Edits.{sets};
 ghost use Rattle.answer_run.specs.Answers.{TellEnsures};
-ghost use Rattle.answer_run.specs.Inner.{Room};
 ghost use Rattle.swept.specs.Answers.{as_swept};
-ghost use Rattle.entries.specs.Answers.{sweep_told, finish_entries};
-ghost use Rattle.entries.specs.Inner.{FinishFits, AnswerFits};
+ghost use Rattle.entries.specs.Answers.{sweep_told, refusal_told, finish_entries};
+ghost use Rattle.entries.specs.Inner.{FinishFits, AnswerFits, RefusalFits};
 ghost use Rattle.entries.specs.Worked.{WorkedEntries};
 
 use run::Finish;
 use swept::SweepRefusal;
-
-// The first eight entries of a run.
-fn put_eight(run: &mut [i64], a: i64, b: i64, c: i64, d: i64, e: i64, f: i64, g: i64, h: i64)
-    requires { Room 0 8 (length run.old) }
-    ensures { run.new ≡ sets run.old 0 (a ∷ b ∷ c ∷ d ∷ e ∷ f ∷ g ∷ h ∷ []) }
-{
-    answer_run::put_pair(run, 0, a, b);
-    answer_run::put_pair(run, 2, c, d);
-    answer_run::put_pair(run, 4, e, f);
-    answer_run::put_pair(run, 6, g, h);
-}
 
 // A walk that came to its last station: zeros stand for a widest place where no station is complete.
 fn put_finish(run: &mut [i64], finish: Finish)
@@ -34,14 +22,30 @@ fn put_finish(run: &mut [i64], finish: Finish)
     // Kept: the new form is no plainer: i64 has no From of a usize, and try_from would answer an error that cannot come.
     let steps = finish.steps as i64;
     let front = finish.front;
-    match finish.widest {
-        None => put_eight(run, steps, 0, 0, 0, 0, 0, front.x, front.y),
+    let entries = match finish.widest {
+        None => [steps, 0, 0, 0, 0, 0, front.x, front.y],
         Some(p) => {
             // Kept: the cast, for the reason given above.
             let station = p.station as i64;
-            put_eight(
-                run, steps, 1, station, p.width, p.left, p.right, front.x, front.y,
-            )
+            [
+                steps, 1, station, p.width, p.left, p.right, front.x, front.y,
+            ]
+        }
+    };
+    answer_run::put_entries(run, 0, entries);
+}
+
+// A refusal in one number, with the unit and the step beside it, or with the byte.
+pub fn refusal_number(refusal: SweepRefusal) -> u32
+    requires { RefusalFits refusal }
+    ensures { result ≡ refusal_told refusal }
+{
+    match refusal {
+        SweepRefusal::Stopped(stop) => {
+            answer_run::at_unit(stop.fault.number(), stop.unit, stop.step)
+        }
+        SweepRefusal::Refused(refused) => {
+            answer_run::at_byte(refused.fault.number(), refused.place)
         }
     }
 }
@@ -56,12 +60,7 @@ pub fn tell_sweep(swept: Result<Finish, SweepRefusal>, answer: &mut [i64]) -> u3
             put_finish(answer, finish);
             0
         }
-        Err(SweepRefusal::Stopped(stop)) => {
-            answer_run::at_unit(stop.fault.number(), stop.unit, stop.step)
-        }
-        Err(SweepRefusal::Refused(refusal)) => {
-            answer_run::at_byte(refusal.fault.number(), refusal.place)
-        }
+        Err(refusal) => refusal_number(refusal),
     }
 }
 

@@ -1,5 +1,5 @@
 // Whether the rig of a job touches a kerb: a job from standard input, as `sweep` reads it, and the name of the kerb's file as the only argument.
-// What cannot be read or written is told on standard error, because a program's status is always 0.
+// What cannot be read or written is told on standard error, because the status is 0 whatever comes, as the README promises.
 #![tactic(auto)]
 
 ghost use Rattle.kerbed.specs.Kerbed.{kerbed_of};

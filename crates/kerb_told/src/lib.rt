@@ -1,8 +1,8 @@
 // What a job and a kerb came to, as the lines that the program prints, and as entries of a lent run.
 #![tactic(auto)]
 
-pub mod entries;
 pub mod ticks;
+pub mod touches;
 
 ghost use Rattle.answer_text.specs.Answers.{TextIs};
 ghost use Rattle.answer_text.specs.Appending.{nothing, Line};
@@ -37,12 +37,7 @@ pub fn kerb_text(k: Result<Option<Touch>, SweepRefusal>) -> Text
     match k {
         Ok(None) => none_text(),
         Ok(Some(touch)) => touch_text(touch),
-        Err(SweepRefusal::Stopped(stop)) => {
-            answer_text::stopped_text(stop.fault.number(), stop.unit, stop.step)
-        }
-        Err(SweepRefusal::Refused(refusal)) => {
-            answer_text::refused_text(refusal.fault.number(), refusal.place)
-        }
+        Err(refusal) => answer_text::refusal_text(refusal),
     }
 }
 

@@ -6,7 +6,6 @@ ghost use Rattle.kerb_told.specs.Entries.{ticks_told};
 ghost use Rattle.kerb_told.specs.Inner.{TicksFit};
 
 use kerb_reader::KerbRefusal;
-use refusal::Fault;
 
 // A reading's number; how many vertices there are is written where it is not refused, and only there.
 pub fn tell_ticks(k: Result<usize, KerbRefusal>, answer: &mut [i64]) -> u32
@@ -22,6 +21,6 @@ pub fn tell_ticks(k: Result<usize, KerbRefusal>, answer: &mut [i64]) -> u32
         Err(KerbRefusal::Field(refusal)) => {
             answer_run::at_byte(refusal.fault.number(), refusal.place)
         }
-        Err(KerbRefusal::NoRoom) => u32::from(Fault::RunTooShort.number()),
+        Err(KerbRefusal::NoRoom) => answer_run::too_short(),
     }
 }

@@ -1,5 +1,5 @@
 // The best settings of a sliding bogie: a job from standard input, as `sweep` reads it, and the lowest wheelbase, the pitch and the number of settings as arguments.
-// What cannot be read or written is told on standard error, because a program's status is always 0.
+// What cannot be read or written is told on standard error, because the status is 0 whatever comes, as the README promises.
 #![tactic(auto)]
 
 ghost use Rattle.offered.specs.Offered.{offered_of};

@@ -1,5 +1,5 @@
 // One job from standard input: at most its first 1,024 bytes are read, which answer as the whole would. What it came to goes to standard output.
-// A read or a write that fails is told on standard error, because a program's status is always 0.
+// A read or a write that fails is told on standard error, because the status is 0 whatever comes, as the README promises.
 #![tactic(auto)]
 
 ghost use Rattle.swept.specs.Swept.{swept_of};

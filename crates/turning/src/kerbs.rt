@@ -25,7 +25,7 @@ pub extern "C" fn turning_kerb_ticks(
         answer.new }
 {
     if answer.len() < TICKS_ENTRIES {
-        return 21;
+        return answer_run::too_short();
     }
     kerb_told::ticks::tell_ticks(kerb_reader::read_kerb(geometry, xs, ys), answer)
 }
@@ -42,12 +42,12 @@ pub extern "C" fn turning_kerb_touch(
     ensures { TouchCalled job.now vertices (kerb_runs xs.now ys.now) answer.old result answer.new }
 {
     if answer.len() < TOUCH_ENTRIES {
-        return 21;
+        return answer_run::too_short();
     }
     let kerb = Kerb {
         count: vertices,
         xs,
         ys,
     };
-    kerb_told::entries::tell_touch(kerbed::check_ticks(job, kerb), answer)
+    kerb_told::touches::tell_touch(kerbed::check_ticks(job, kerb), answer)
 }

@@ -25,7 +25,7 @@ pub extern "C" fn turning_sweep(job: &[u8], answer: &mut [i64]) -> u32
     ensures { SweepCalled job.now answer.old result answer.new }
 {
     if answer.len() < SWEEP_ENTRIES {
-        return 21;
+        return answer_run::too_short();
     }
     entries::tell_sweep(swept::sweep_job(job), answer)
 }
@@ -54,14 +54,14 @@ pub extern "C" fn turning_run(
         answer.new }
 {
     if answer.len() < SWEEP_ENTRIES {
-        return 21;
+        return answer_run::too_short();
     }
     let mut path_room = PathRoom { xs, ys, gxs, gys };
     let mut room = ReachRoom { left, right, marks };
     entries::tell_sweep(swept::sweep_into(job, &mut path_room, &mut room), answer)
 }
 
-// The path turn by itself: 0 with the new heading and the move, or 6, 7 or 8.
+// The path turn by itself: 0 with the new heading and the move, or 21, 6, 7 or 8.
 // Kept: two numbers for the heading, as the C interface needs it: it hands over each coordinate by itself.
 #[unsafe(no_mangle)]
 pub extern "C" fn turning_path_turn(gx: i64, gy: i64, s: u32, r: i32, answer: &mut [i64]) -> u32
@@ -70,7 +70,7 @@ pub extern "C" fn turning_path_turn(gx: i64, gy: i64, s: u32, r: i32, answer: &m
     answer_run::turns::path_turn(gx, gy, s, r, answer)
 }
 
-// The turn of a single unit: 0 with its new vector, or 27 or 22.
+// The turn of a single unit: 0 with its new vector, or 21, 27 or 22.
 #[unsafe(no_mangle)]
 pub extern "C" fn turning_unit_turn(
     dx: i64,
@@ -85,7 +85,7 @@ pub extern "C" fn turning_unit_turn(
     answer_run::turns::unit_turn(dx, dy, fx, fy, wheelbase, answer)
 }
 
-// Claim: where a call refuses, it has written nothing.
+// Claim: a call that refuses leaves its answer run as it was, and the other runs lent to it too, unless it refuses by 22, 23 or 30, which it finds by walking.
 #[tactic(auto, using(crate::proofs::ClaimLaws::writes_nothing))]
 pub fn refusal_writes_nothing()
     ensures { RefusalWritesNothing }

@@ -37,7 +37,7 @@ pub extern "C" fn turning_settings(
         answer.new }
 {
     if answer.len() < SETTINGS_ENTRIES {
-        return 21;
+        return answer_run::too_short();
     }
     let rail = Rail {
         lowest,

@@ -1,12 +1,22 @@
 -- `kerb_told::kerb_text` meets its contract.
-use mathlib.Core.Path.{◌≡◌}
+use mathlib.Core.Path.{◌≡◌, refl, sym}
 use native.Mathlib.Omega.{arith}
 use borrow.Author.Rules.{rules}
 use Rattle.std.specs.Prelude.{None, Some, Ok, Err}
-use Rattle.swept.specs.declared.SweepRefusal.TheVariants.{Stopped, Refused}
+use Rattle.swept.specs.declared.SweepRefusal.{SweepRefusal}
+use Rattle.swept.specs.declared.SweepRefusal.TheVariants as R
+use Rattle.swept.specs.Answers.{as_swept}
+use Rattle.answer_text.specs.Printed.{printed}
 use Rattle.answer_text.proofs.AnswerLaws.{whole}
+use Rattle.kerbed.specs.Answers.{as_kerbed}
 use Rattle.kerb_told.specs.Printed.{printed_kerb}
 use Rattle.kerb_told.proofs.kerb_text.Goals as goal
+
+-- a refusal is printed alike with a kerb and without one
+refused : (r : SweepRefusal) → printed (as_swept (Err r)) ≡ printed_kerb (as_kerbed (Err r))
+unfolding printed printed_kerb
+refused (R.Stopped s) = refl
+refused (R.Refused r) = refl
 
 pub returns-in-Ok-None : goal.returns-in-Ok-None
 unfolding printed_kerb
@@ -20,14 +30,7 @@ returns-in-Ok-Some c =
     let e : c.args.k ≡ Ok (Some c.in-Ok-Some.touch) = search rules in
     rw e (whole _ _ 48 (omega arith) c.touch_text.ensures)
 
-pub returns-in-Err-Stopped : goal.returns-in-Err-Stopped
-unfolding printed_kerb
-returns-in-Err-Stopped c =
-    let e : c.args.k ≡ Err (Stopped c.in-Err-Stopped.stop) = search rules in
-    rw e (whole _ _ 81 (omega arith) (rw c.number.ensures at c.stopped_text.ensures))
-
-pub returns-in-Err-Refused : goal.returns-in-Err-Refused
-unfolding printed_kerb
-returns-in-Err-Refused c =
-    let e : c.args.k ≡ Err (Refused c.in-Err-Refused.refusal) = search rules in
-    rw e (whole _ _ 53 (omega arith) (rw c.number-in-Err-Refused.ensures at c.refused_text.ensures))
+pub returns-in-Err : goal.returns-in-Err
+returns-in-Err c =
+    let r = c.in-Err.refusal in
+    rw (c.in-Err.is, sym (refused r)) c.refusal_text.ensures

@@ -1,8 +1,6 @@
 // A report as a number and the entries of a lent run.
-ghost use Rattle.std.specs.Prelude.{◌≡◌, [], ◌∷◌, length};
-ghost use Rattle.std.proofs.lemmas.List.Edits.{sets};
+ghost use Rattle.std.specs.Prelude.{length};
 ghost use Rattle.answer_run.specs.Answers.{TellEnsures};
-ghost use Rattle.answer_run.specs.Inner.{Room};
 ghost use Rattle.kerbed.specs.Answers.{as_kerbed};
 ghost use Rattle.kerb_told.specs.Entries.{touch_told};
 ghost use Rattle.kerb_told.specs.Inner.{AnswerFits};
@@ -11,14 +9,6 @@ ghost use Rattle.kerb_told.specs.Worked.{WorkedEntries};
 use kerb_report::Touch;
 use swept::SweepRefusal;
 
-// The first three entries of a run.
-fn put_three(run: &mut [i64], a: i64, b: i64, c: i64)
-    requires { Room 0 3 (length run.old) }
-    ensures { run.new ≡ sets run.old 0 (a ∷ b ∷ c ∷ []) }
-{
-    run[..3].copy_from_slice(&[a, b, c]);
-}
-
 // A report's number; its entries are written where the walk is not refused, and only there.
 pub fn tell_touch(k: Result<Option<Touch>, SweepRefusal>, answer: &mut [i64]) -> u32
     requires { AnswerFits (as_kerbed k) (length answer.old) }
@@ -26,20 +16,15 @@ pub fn tell_touch(k: Result<Option<Touch>, SweepRefusal>, answer: &mut [i64]) ->
 {
     match k {
         Ok(None) => {
-            put_three(answer, 0, 0, 0);
+            answer_run::put_entries(answer, 0, [0, 0, 0]);
             0
         }
         Ok(Some(touch)) => {
             // Kept: the new form is no plainer: i64 has no From of a usize, and try_from would answer an error that cannot come.
-            put_three(answer, 1, touch.step as i64, touch.point as i64);
+            answer_run::put_entries(answer, 0, [1, touch.step as i64, touch.point as i64]);
             0
         }
-        Err(SweepRefusal::Stopped(stop)) => {
-            answer_run::at_unit(stop.fault.number(), stop.unit, stop.step)
-        }
-        Err(SweepRefusal::Refused(refusal)) => {
-            answer_run::at_byte(refusal.fault.number(), refusal.place)
-        }
+        Err(refusal) => entries::refusal_number(refusal),
     }
 }
 
