@@ -6,8 +6,8 @@ use mathlib.Core.List.{List, [], ◌∷◌, map}
 use native.Mathlib.Omega.{arith}
 use borrow.Author.Tests.{leb-true}
 use lib.Dec.{leb}
+use Rattle.std.proofs.lemmas.Bool.{and_parts}
 use Rattle.number.specs.Read.{pick}
-use Rattle.number.proofs.FieldCodec.{both}
 use lib.IntN.{pos, ◌*ℤ◌}
 use Rattle.plane.specs.Length.{heading_length, Near}
 use Rattle.job.specs.declared.Vehicle.{Vehicle}
@@ -63,9 +63,9 @@ passed false b d e = absurd (omega arith)
 some_asked : (c : Call) → lent c ≡ true → 1 ≤ c.asked
 unfolding lent
 some_asked c e =
-    let a = (both (path_lent c.asked c.path) (reaches_lent c.asked c.reaches) e).0 in
-    let b = (both (between 1 2001 c.asked) (room_for c.asked c.path) a).0 in
-    leb-true 1 c.asked (both (leb 1 c.asked) (leb c.asked 2001) b).0
+    let a = (and_parts (path_lent c.asked c.path) (reaches_lent c.asked c.reaches) e).0 in
+    let b = (and_parts (between 1 2001 c.asked) (room_for c.asked c.path) a).0 in
+    leb-true 1 c.asked (and_parts (leb 1 c.asked) (leb c.asked 2001) b).0
 
 having_start : (v : Vehicle) (c : Call) → place_refusal v c ≡ 0 → Keeping (drawn_start v (start_heading c))
 unfolding place_refusal

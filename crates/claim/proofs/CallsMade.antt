@@ -1,17 +1,18 @@
 -- Every entry answers whatever it is handed: its outcome by the definitions that its contract cites.
-use Prim.Native.Nat.{ℕ, zero, suc}
-use mathlib.Core.Path.{◌≡◌, refl, ap}
+use mathlib.Core.Path.{◌≡◌, refl, sym, ap}
 use mathlib.Core.Bool.{Bool, true, false}
 use mathlib.Core.List.{List, [], ◌∷◌, map}
-use native.Mathlib.Omega.{arith}
 use lib.ListN.{length}
+use Rattle.std.specs.Prelude.{Ok, Err}
+use Rattle.refusal.specs.Numbers.{number_of}
 use Rattle.number.specs.Read.{pick}
 use Rattle.job.specs.declared.Job.{Job}
 use Rattle.job.specs.declared.Vehicle.{Vehicle}
+use Rattle.job.proofs.FaultLaws.{numbered}
 use Rattle.path.specs.Stations.{stations}
 use Rattle.path.specs.Laying.{PathRuns}
 use Rattle.walk.specs.declared.Walk.{Walk}
-use Rattle.walk.specs.Drawn.{Drawn, view, Call, made}
+use Rattle.walk.specs.Drawn.{Drawn, view, Call, made, station_at}
 use Rattle.walk.specs.Tests.{lent, path_sound, record_sound, at_last}
 use Rattle.walk.specs.Units.{Turning, turned, stopped}
 use Rattle.walk.specs.Rig.{Stepped, drawn_start, turning_of, after_turning, turned_down, draw_step}
@@ -20,19 +21,28 @@ use Rattle.reaches.specs.Crossing.{crossed}
 use Rattle.stations.specs.Placing.{place_refusal, unless_refused, start_heading}
 use Rattle.stations.specs.Stepping.{points_at, if_made, StepEnsures}
 use Rattle.stations.proofs.PlaceLaws.{place_refused, place_done}
-use Rattle.stations.specs.Placing as P
+use Rattle.run.specs.Walking.{steps_left}
 use Rattle.run.specs.Run.{ran_over, run_refusal, ran_answer, job_path, job_course}
 use Rattle.claim.specs.DemandThree.{Turn, Chain}
 use Rattle.claim.specs.PremisesMet.{Placement, JobRun, Handing, handing_of, Calls}
+use Rattle.claim.proofs.FaultsNamed.{Named, none, named}
+use Rattle.claim.proofs.AnswersNamed.{place_named, run_named, walk_says, RanSays, ran_says, run_says}
 
 -- a whole job
 pub runs_of_lem : (j : Job) (p : PathRuns) (r : Reaches) → JobRun j p r
-runs_of_lem j p r = record {
-  answer = ran_answer (run_refusal j p r) (ran_over (length (stations j)) (job_path j p) (job_course j p r));
-  path_left = unless_refused (run_refusal j p r) (job_path j p) p;
-  reaches_left = unless_refused (run_refusal j p r) (job_course j p r).runs r;
-  ensured = record { answered = refl; path = refl; reaches = refl };
-}
+runs_of_lem j p r =
+    let n = length (stations j) in
+    let start = drawn_start j.vehicle (station_at (job_path j p) 0).heading in
+    let walked = walk_says (steps_left n start) n (job_path j p) start (cleared n r) in
+    by (run_says n (job_path j p) (job_course j p r) walked (run_refusal j p r) (run_named j p r))
+  where
+    by : RanSays (ran_answer (run_refusal j p r) (ran_over (length (stations j)) (job_path j p) (job_course j p r))) → JobRun j p r
+    by (ran_says a e) = record {
+      answer = a;
+      path_left = unless_refused (run_refusal j p r) (job_path j p) p;
+      reaches_left = unless_refused (run_refusal j p r) (job_course j p r).runs r;
+      ensured = record { answered = e; path = refl; reaches = refl };
+    }
 
 -- the record that shows a state of the drawn rig
 abbrev pub record_of : Drawn → Walk
@@ -40,18 +50,20 @@ record_of s = record { vehicle = s.vehicle; station = s.station; d = s.vectors }
 
 -- placing
 pub places : (v : Vehicle) (w : Walk) (c : Call) (before : Reaches) → Placement v w c before
-places v w c before = by (place_refusal v c) refl
+places v w c before = by (place_named v c)
   where
-    by : (n : ℕ) → place_refusal v c ≡ n → Placement v w c before
-    by zero e = record {
-      result = record { answer = P.placed; walk = record_of (drawn_start v (start_heading c)) };
+    by : Named (place_refusal v c) → Placement v w c before
+    by (none e) = record {
+      answer = Ok tt;
+      walk = record_of (drawn_start v (start_heading c));
       after = cleared c.asked before;
       ensured = place_done v w c before (record_of (drawn_start v (start_heading c))) (cleared c.asked before) e refl refl;
     }
-    by (suc n) e = record {
-      result = record { answer = P.refused (suc n); walk = w };
+    by (named f e) = record {
+      answer = Err f;
+      walk = w;
       after = before;
-      ensured = place_refused v w c before (suc n) e (λ z. omega arith);
+      ensured = place_refused v w c before (number_of f) (sym e) (numbered f);
     }
 
 -- a step that is not made leaves the state

@@ -30,11 +30,13 @@ use Rattle.reaches.specs.Cells.{Reaches, reach_runs, lengths_of, at_stations, cl
 use Rattle.stations.specs.Placing.{call_of, place_refusal, start_heading}
 use Rattle.stations.specs.Placing as P
 use Rattle.stations.proofs.PlaceLaws.{place_done}
+use Rattle.run.specs.Ran.{as_ran}
 use Rattle.run.specs.Run.{run_refusal}
 use Rattle.claim.specs.DemandThree.{Turn}
 use Rattle.claim.specs.WholeRun.{Run}
 use Rattle.claim.specs.PremisesMet.{Handing, turn_answers, WalkAnswering, RunAnswering, PremisesMet}
 use Rattle.claim.proofs.FaultsNamed.{lays}
+use Rattle.claim.proofs.AnswersNamed.{step_told}
 use Rattle.claim.proofs.CallsMade.{places, runs_of_lem, record_of, turns_over, over_chain, calls}
 use Rattle.claim.proofs.CallsThere.{turns_until, turns_there, calls_there, turns_are, run_calls_lem}
 use Rattle.claim.proofs.RefusedThere.{run_refused_lem}
@@ -133,7 +135,7 @@ reach_room = reach_runs three_zeros three_zeros (replicate 3 0)
 abbrev run_of : Job → Run
 run_of j =
     let x = runs_of_lem j path_room reach_room in
-    record { job = j; path = path_room; reaches = reach_room; answer = x.answer; path_left = x.path_left; reaches_left = x.reaches_left }
+    record { job = j; path = path_room; reaches = reach_room; answer = as_ran x.answer; path_left = x.path_left; reaches_left = x.reaches_left }
 
 -- a run whose calls answer so
 met_by : (j : Job) (answers : List Outcome) → run_refusal j path_room reach_room ≡ 0 → turn_answers (turns_there (run_of j)) ≡ answers → RunAnswering answers
@@ -157,4 +159,4 @@ unfolding half_to nearest_size nearest_z has_length fault_of units_fault element
 stopped_met = met_by (job_on 5001 (5000 ∷ 5001 ∷ [])) (made ∷ refused_at 22 1 ∷ []) refl refl
 
 pub premises_met_lem : PremisesMet
-premises_met_lem = record { lay = lays; place = places; step = calls; run = runs_of_lem; run_calls = run_calls_lem; run_refused = run_refused_lem; walked = walk_met; finished = finished_met; stopped = stopped_met }
+premises_met_lem = record { lay = lays; place = places; step = calls; told = step_told; run = runs_of_lem; run_calls = run_calls_lem; run_refused = run_refused_lem; walked = walk_met; finished = finished_met; stopped = stopped_met }

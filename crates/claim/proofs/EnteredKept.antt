@@ -22,8 +22,6 @@ use Rattle.walk.specs.Tests.{lent, path_sound, vehicle_sound}
 use Rattle.walk.specs.Rig.{zero_vector, drawn_start, draw_step}
 use Rattle.walk.proofs.PathTests.{path_station}
 use Rattle.points.specs.Requires.{RigAt}
-use Rattle.points.specs.Points.{rig_points}
-use Rattle.points.proofs.PointLaws.{points_sized}
 use Rattle.reaches.specs.Cells.{cleared_cell}
 use Rattle.reaches.specs.Crossing.{reach_of, crosses}
 use Rattle.reaches.specs.Inner.{SizedPoint}
@@ -31,7 +29,7 @@ use Rattle.reaches.proofs.ReachSizes.{reach_inside}
 use Rattle.stations.specs.Placing.{place_refusal, start_heading}
 use Rattle.stations.specs.Stepping.{if_made}
 use Rattle.marks.specs.Count.{point_count}
-use Rattle.stations.proofs.Entering.{enterable}
+use Rattle.stations.proofs.Entering.{enterable, sized}
 use Rattle.run.proofs.CourseLaws.{vehicle_stays}
 use Rattle.claim.specs.DemandThree.{Turn}
 use Rattle.claim.specs.StationHistory.{Moves, moves_in, made_moves, ever_crossed, entering_in, entering, left_of, right_of, Extremes, History, place_call, Lawful, moves_of}
@@ -54,9 +52,6 @@ AllSized n (m ∷ ms) = SizedMoves n m × AllSized n ms
 -- the record that shows a state
 abbrev record_of : Drawn → Walk
 record_of s = record { vehicle = s.vehicle; station = s.station; d = s.vectors }
-
-sized : {v : Vehicle} {ds : List Vec2} {f : Vec2} → RigAt v ds f → (p : ℕ) → SizedPoint (get_or (rig_points v ds f) p zero_vector)
-sized a p = let q = points_sized a p in record { x = q.x; y = q.y }
 
 made_sized : (v : Vehicle) → v.count ≤ 4 → (s : Drawn) → s.vehicle ≡ v → (c : Call) → length s.vehicle.units ≡ 4 → (draw_step s c).answer ≡ made → SizedMoves (point_count v) (moves_in s c)
 made_sized v u s q c n m =

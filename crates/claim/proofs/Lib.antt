@@ -2,6 +2,7 @@ pub mod CallsKept
 pub mod LaidLaws
 pub mod NeverLaws
 pub mod FaultsNamed
+pub mod AnswersNamed
 pub mod CallsMade
 pub mod CallsThere
 pub mod RefusedThere

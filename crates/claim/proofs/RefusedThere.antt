@@ -1,6 +1,6 @@
 -- A run that is refused is so by its laying, or by placing over what was laid.
 use Prim.Native.Nat.{ℕ, zero, suc}
-use mathlib.Core.Path.{◌≡◌, refl, sym, ◌∙◌, ap}
+use mathlib.Core.Path.{◌≡◌, refl, sym, ◌∙◌}
 use mathlib.Core.Bool.{Bool, true, false, ◌&&◌, and-false}
 use native.Mathlib.Omega.{arith}
 use borrow.Author.Tests.{eqb-true}
@@ -16,7 +16,6 @@ use Rattle.walk.specs.declared.Walk.{Walk}
 use Rattle.walk.specs.Drawn.{Outcome, made, refused, refused_at}
 use Rattle.walk.specs.Tests.{path_lent, reaches_lent, lent}
 use Rattle.reaches.specs.Cells.{lengths_of}
-use Rattle.stations.specs.Placing as P
 use Rattle.stations.specs.Placing.{call_of, place_refusal}
 use Rattle.stations.proofs.PlaceLaws.{place_refused}
 use Rattle.run.specs.Ran.{Ran}
@@ -62,8 +61,8 @@ module _ (x : Run) (w : Walk) where
   refused_by true false c m f p r e h =
       not_laid F.RunTooShort x.path (no_room_answered x.job x.path (eqb-true (judge x.job) 0 f) p) e
   refused_by true true false m f p r e h =
-      not_placed count lay (record { answer = P.refused 21; walk = w }) x.reaches (laid_answered x.job x.path (eqb-true (judge x.job) 0 f) p)
-      (place_refused x.job.vehicle w (call_of count lay x.reaches) x.reaches 21 (short_refused r) (λ z. omega arith)) (ap (λ (k : ℕ). P.refused k) e)
+      not_placed count lay F.RunTooShort w x.reaches (laid_answered x.job x.path (eqb-true (judge x.job) 0 f) p)
+      (place_refused x.job.vehicle w (call_of count lay x.reaches) x.reaches 21 (short_refused r) (λ z. omega arith)) e
   refused_by true true true m f p r e h = absurd (h (sym e))
 
   refused_so : (m : ℕ) → run_refusal x.job x.path x.reaches ≡ m → (m ≡ 0 → ⊥) → RunRefused x w m

@@ -8,11 +8,11 @@ use borrow.Author.Tests.{eq-eqb}
 use lib.Dec.{eqb}
 use lib.ListN.{length}
 use Rattle.std.specs.Prelude.{Ok, Err}
+use Rattle.std.proofs.lemmas.Bool.{and_right, and_parts, and_from}
 use Rattle.refusal.specs.Numbers.{number_of}
 use Rattle.refusal.specs.Numbers as N
 use Rattle.refusal.specs.declared.Fault.{Fault}
 use Rattle.number.specs.Read.{pick}
-use Rattle.number.proofs.FieldCodec.{both, and}
 use Rattle.job.specs.declared.Job.{Job}
 use Rattle.job.specs.declared.Vehicle.{Vehicle}
 use Rattle.marks.specs.Count.{point_count}
@@ -70,9 +70,9 @@ not_laid_lem x h f laid t =
 pub read_off : (v : Vehicle) (s : Drawn) (n : ℕ) (path : PathRuns) (r : Reaches) → s.vehicle ≡ v → record_sound n s ≡ true → lent (call_of n path r) ≡ true → answer_of (widest_among (point_count v) n r) ≡ widest_answer s n r
 unfolding lent widest_lent widest_answer
 read_off v s n path r e k l =
-    let a = both (path_lent n path) (reaches_lent n (lengths_of r)) l in
-    let b = both (between 1 2001 n) (room_for n path) a.0 in
-    rw (and b.0 a.1, k) (ap (λ (x : Vehicle). answer_of (widest_among (point_count x) n r)) (sym e))
+    let a = and_parts (path_lent n path) (reaches_lent n (lengths_of r)) l in
+    let b = and_parts (between 1 2001 n) (room_for n path) a.0 in
+    rw (and_from _ _ b.0 a.1, k) (ap (λ (x : Vehicle). answer_of (widest_among (point_count x) n r)) (sym e))
 
 -- laid: the job has no fault and its path has room
 module _ (x : Run) (h : Ensured x) (n : ℕ) (laid : PathRuns) (t : LayEnsures x.job x.path (Ok n) laid) where
@@ -86,11 +86,7 @@ module _ (x : Run) (h : Ensured x) (n : ℕ) (laid : PathRuns) (t : LayEnsures x
   place_by : (b : Bool) → reaches_lent n (lengths_of x.reaches) ≡ b → place_refusal j.vehicle call ≡ pick b 0 21
   unfolding place_refusal lent
   place_by true e = let y = runnable j x.path n laid t x.reaches e in rw (y.lent, y.path, y.vehicle) refl
-  place_by false e = rw (and-false (path_lent n laid) (reaches_lent n (lengths_of x.reaches)) e) refl
-    where
-      and-false : (a b : Bool) → b ≡ false → (a && b) ≡ false
-      and-false true b e = e
-      and-false false b e = refl
+  place_by false e = rw (and_right (path_lent n laid) (reaches_lent n (lengths_of x.reaches)) e) refl
 
   run_by : (b : Bool) → reaches_lent n (lengths_of x.reaches) ≡ b → run_refusal j x.path x.reaches ≡ pick b 0 21
   unfolding run_refusal
@@ -119,7 +115,7 @@ module _ (x : Run) (h : Ensured x) (n : ℕ) (laid : PathRuns) (t : LayEnsures x
 
       reaches_lent_lem : lent call ≡ true → reaches_lent n (lengths_of x.reaches) ≡ true
       unfolding lent
-      reaches_lent_lem l = (both (path_lent n laid) (reaches_lent n (lengths_of x.reaches)) l).1
+      reaches_lent_lem l = (and_parts (path_lent n laid) (reaches_lent n (lengths_of x.reaches)) l).1
 
       call_lent : lent call ≡ true
       unfolding place_refusal

@@ -7,11 +7,15 @@ use Rattle.job.specs.declared.Job.{Job}
 use Rattle.job.specs.declared.Vehicle.{Vehicle}
 use Rattle.path.specs.Laying.{PathRuns, LayEnsures}
 use Rattle.walk.specs.declared.Walk.{Walk}
-use Rattle.walk.specs.Drawn.{Call, Outcome, made, refused, refused_at}
+use Rattle.walk.specs.declared.StepRefusal.{StepRefusal}
+use Rattle.walk.specs.Drawn.{Drawn, Call, Outcome, made, refused, refused_at, outcome_of}
+use Rattle.walk.specs.Rig.{draw_step}
 use Rattle.reaches.specs.Cells.{Reaches, lengths_of}
 use Rattle.stations.specs.Placing as P
-use Rattle.stations.specs.Placing.{Placing, call_of, PlaceEnsures}
-use Rattle.run.specs.Ran.{Ran}
+use Rattle.stations.specs.Placing.{Placing, as_placed, call_of, PlaceEnsures}
+use Rattle.run.specs.declared.Finish.{Finish}
+use Rattle.run.specs.declared.RunRefusal.{RunRefusal}
+use Rattle.run.specs.Ran.{as_ran}
 use Rattle.run.specs.Ran as R
 use Rattle.run.specs.Run.{RunEnsures}
 use Rattle.claim.specs.DemandThree.{Turn, Chain}
@@ -23,18 +27,24 @@ pub record Laying (j : Job) (before : PathRuns) : Type 0 where
   pub after : PathRuns
   pub ensured : LayEnsures j before answer after
 
--- what placing does
+-- what placing answers and leaves
 pub record Placement (v : Vehicle) (w : Walk) (c : Call) (before : Reaches) : Type 0 where
-  pub result : Placing
+  pub answer : Result (Unit {0}) Fault
+  pub walk : Walk
   pub after : Reaches
-  pub ensured : PlaceEnsures v w c before result after
+  pub ensured : PlaceEnsures v w c before (record { answer = as_placed answer; walk = walk }) after
 
--- what a whole job does
+-- what a whole job answers and leaves
 pub record JobRun (j : Job) (path : PathRuns) (reaches : Reaches) : Type 0 where
-  pub answer : Ran
+  pub answer : Result Finish RunRefusal
   pub path_left : PathRuns
   pub reaches_left : Reaches
-  pub ensured : RunEnsures j path reaches answer path_left reaches_left
+  pub ensured : RunEnsures j path reaches (as_ran answer) path_left reaches_left
+
+-- a step call has an answer that says what the drawn rig answers
+pub record Told (s : Drawn) (c : Call) : Type 0 where
+  pub answer : Result (Unit {0}) StepRefusal
+  pub told : outcome_of answer ≡ (draw_step s c).answer
 
 -- what a step call is handed: its arguments, and what the runs hold
 pub record Handing : Type 0 where
@@ -67,8 +77,9 @@ pub record RunCalls (x : Run) (w : Walk) : Type 0 where
 -- what refuses a run that is refused by m, in `whole_run`: its laying, or placing over what was laid
 pub data RunRefused (x : Run) (w : Walk) (m : ℕ) : Type 0 where
   not_laid : (f : Fault) (path : PathRuns) → LayEnsures x.job x.path (Err f) path → number_of f ≡ m → RunRefused x w m
-  not_placed : (n : ℕ) (path : PathRuns) (p : Placing) (after : Reaches) → LayEnsures x.job x.path (Ok n) path
-      → PlaceEnsures x.job.vehicle w (call_of n path x.reaches) x.reaches p after → p.answer ≡ P.refused m → RunRefused x w m
+  not_placed : (n : ℕ) (path : PathRuns) (f : Fault) (left : Walk) (after : Reaches) → LayEnsures x.job x.path (Ok n) path
+      → PlaceEnsures x.job.vehicle w (call_of n path x.reaches) x.reaches (record { answer = as_placed (Err f); walk = left }) after
+      → number_of f ≡ m → RunRefused x w m
 
 abbrev pub turn_answers : List Turn → List Outcome
 turn_answers ts = map (λ (t : Turn). t.result.answer) ts
@@ -102,6 +113,7 @@ pub record PremisesMet : Type 0 where
   pub lay : (j : Job) (before : PathRuns) → Laying j before
   pub place : (v : Vehicle) (w : Walk) (c : Call) (before : Reaches) → Placement v w c before
   pub step : (w : Walk) (hs : List Handing) → Calls w hs
+  pub told : (s : Drawn) (c : Call) → Told s c
   pub run : (j : Job) (path : PathRuns) (reaches : Reaches) → JobRun j path reaches
   pub run_calls : (x : Run) → Ensured x → ((m : ℕ) → x.answer ≡ R.refused m → ⊥) → (w : Walk) → RunCalls x w
   pub run_refused : (x : Run) → Ensured x → (m : ℕ) → x.answer ≡ R.refused m → (w : Walk) → RunRefused x w m

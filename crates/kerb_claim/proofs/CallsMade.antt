@@ -4,7 +4,7 @@ use mathlib.Core.Path.{◌≡◌, refl, sym, ◌∙◌, subst}
 use mathlib.Core.Bool.{Bool, true, false}
 use mathlib.Core.List.{[], ◌∷◌}
 use native.Mathlib.Omega.{arith}
-use Rattle.number.proofs.FieldCodec.{and}
+use Rattle.std.proofs.lemmas.Bool.{and_from}
 use Rattle.path.specs.Laying.{PathRuns}
 use Rattle.walk.specs.declared.Walk.{Walk}
 use Rattle.walk.specs.Drawn.{view, Lengths, station_at, Outcome, made, refused, refused_at}
@@ -69,7 +69,7 @@ module _ (q : Question) (runs : Reaches) (room : reaches_lent q.asked (lengths_o
 
   is_lent : path_lent q.asked q.path ≡ true → lent (call_of q.asked q.path runs) ≡ true
   unfolding lent
-  is_lent e = and e room
+  is_lent e = and_from _ _ e room
 
   pub calls_there : CallsThere q runs
   calls_there = by (path_lent q.asked q.path) refl (path_sound q.asked q.path) refl (record_sound q.asked (view q.walk)) refl

@@ -8,6 +8,7 @@ use mathlib.Core.Logic.{◌⊎◌, inl, inr}
 use native.Mathlib.Omega.{arith}
 use lib.ListN.{length, get_or}
 use Rattle.std.specs.Prelude.{Option, Some, None}
+use Rattle.std.proofs.lemmas.Bool.{or_left, or_right}
 use Rattle.number.specs.Read.{pick}
 use Rattle.plane.specs.declared.Vec2.{Vec2}
 use Rattle.walk.specs.Rig.{zero_vector}
@@ -39,17 +40,9 @@ module _ (a b : Vec2) where
   touches_true [] s h m = absurd (Memᴰ.not-nil h)
   touches_true (x ∷ ss) s h m = by (Memᴰ.cases_cons h) (λ k. touches_true ss s k m)
     where
-      first : (t u : Bool) → t ≡ true → (t || u) ≡ true
-      first true u e = refl
-      first false u e = absurd (not_both e refl)
-
-      second : (t u : Bool) → u ≡ true → (t || u) ≡ true
-      second true u e = refl
-      second false u e = e
-
       by : (s ≡ x) ⊎ Memᴰ s ss → (Memᴰ s ss → touches_one a b ss ≡ true) → (touches a b x.from x.to || touches_one a b ss) ≡ true
-      by (inl e) rest = first (touches a b x.from x.to) (touches_one a b ss) ((rule a b x.from x.to).1 (rw e at m))
-      by (inr k) rest = second (touches a b x.from x.to) (touches_one a b ss) (rest k)
+      by (inl e) rest = or_left (touches a b x.from x.to) (touches_one a b ss) ((rule a b x.from x.to).1 (rw e at m))
+      by (inr k) rest = or_right (touches a b x.from x.to) (touches_one a b ss) (rest k)
 
   pub meets_none : (ss : List Segment) → touches_one a b ss ≡ false → MeetsOne a b ss → ⊥
   meets_none ss e m = not_both (touches_true ss m.segment m.among m.meeting) e

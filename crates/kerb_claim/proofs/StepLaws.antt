@@ -4,7 +4,7 @@ use mathlib.Core.Path.{◌≡◌, refl, ◌∙◌, ap}
 use mathlib.Core.Bool.{Bool, true, false, ◌&&◌}
 use native.Mathlib.Omega.{arith}
 use borrow.Author.Tests.{le-leb}
-use Rattle.number.proofs.FieldCodec.{and}
+use Rattle.std.proofs.lemmas.Bool.{and_from}
 use Rattle.path.specs.Laying.{PathRuns}
 use Rattle.walk.specs.declared.Walk.{Walk}
 use Rattle.walk.specs.Drawn.{Drawn, Lengths, view, Call, refused}
@@ -26,7 +26,7 @@ module _ (asked : ℕ) (path : PathRuns) (s : Drawn) where
   lent_with l e = rw e refl
 
   over_lent : lent (call_over asked path) ≡ (path_lent asked path && true)
-  over_lent = let l = le-leb asked asked (omega arith) in lent_with (call_over asked path).reaches (and l (and l l))
+  over_lent = let l = le-leb asked asked (omega arith) in lent_with (call_over asked path).reaches (and_from _ _ l (and_from _ _ l l))
 
   same_with : (l : Lengths) → reaches_lent asked l ≡ true → draw_step s (with l) ≡ draw_step s (call_over asked path)
   unfolding draw_step
