@@ -23,7 +23,7 @@ enum Kind {
     List,
 }
 
-// The kinds in the order of their numbers, and what they are called.
+// The kinds in the order of their numbers.
 const KINDS: [Kind; 8] = [
     Kind::Place,
     Kind::Step,
@@ -35,16 +35,20 @@ const KINDS: [Kind; 8] = [
     Kind::List,
 ];
 
-const NAMES: [&str; 8] = [
-    "place",
-    "step",
-    "widest",
-    "write",
-    "lay",
-    "path turn",
-    "unit turn",
-    "list",
-];
+impl Kind {
+    fn name(self) -> &'static str {
+        match self {
+            Kind::Place => "place",
+            Kind::Step => "step",
+            Kind::Widest => "widest",
+            Kind::Write => "write",
+            Kind::Lay => "lay",
+            Kind::PathTurn => "path turn",
+            Kind::UnitTurn => "unit turn",
+            Kind::List => "list",
+        }
+    }
+}
 
 impl Call for Kind {
     fn make(self, line: &mut Line<'_>) -> Option<()> {
@@ -78,8 +82,8 @@ fn report_others(rt: &impl Print, count: Count) {
 }
 
 fn report_all(rt: &impl Print, counts: Counts<8>) {
-    for (name, count) in NAMES.iter().zip(&counts.kinds) {
-        report(rt, name, *count);
+    for (kind, count) in KINDS.iter().zip(&counts.kinds) {
+        report(rt, kind.name(), *count);
     }
     report_others(rt, counts.other);
 }

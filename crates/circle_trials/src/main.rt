@@ -13,15 +13,23 @@ use trial_tools::reading::Line;
 use trial_tools::{places, rigs, tables};
 use walk::Walk;
 
-// What is measured: the last unit's axle on a circle, or the first unit's vector against the line's next one.
+// Where a rig is measured, as a line begins with it.
 #[derive(Clone, Copy)]
+enum Kind {
+    Circle,
+    Straight,
+}
+
+// What is measured: the last unit's axle on a circle, or the first unit's vector against the line's next one.
+#[derive(Clone, Copy, Default)]
 enum Course {
     Circle(Vec2, u32),
+    #[default]
     Straight,
 }
 
 // What is measured, from which station on, and how far off it may be.
-#[derive(Clone, Copy)]
+#[derive(Clone, Copy, Default)]
 struct Trial {
     course: Course,
     from: usize,
@@ -29,7 +37,7 @@ struct Trial {
 }
 
 // The stations measured, and the largest deviation of them; none can be told where the line does not say what it is from.
-#[derive(Clone, Copy)]
+#[derive(Clone, Copy, Default)]
 struct Found {
     stations: u64,
     largest: Option<u32>,
@@ -114,25 +122,26 @@ fn try_job(line: &mut Line<'_>, t: Trial, j: Job) -> Found {
     follow(line, t, j.vehicle, asked, path_room.laid(), &mut room)
 }
 
-// A circle's centre and radius, with the axle up to 5 mm off; or how far off the vectors may be, which are read station by station.
-fn read_trial(line: &mut Line<'_>, on_circle: bool, from: usize) -> Option<Trial> {
-    if on_circle {
-        let course = Course::Circle(line.vector()?, line.number()?);
-        return Some(Trial {
-            course,
-            from,
-            most: 50,
-        });
+// 1 is a circle, any other number a straight.
+fn read_kind(line: &mut Line<'_>) -> Option<Kind> {
+    match line.number::<usize>()? {
+        1 => Some(Kind::Circle),
+        _ => Some(Kind::Straight),
     }
-    Some(Trial {
-        course: Course::Straight,
-        from,
-        most: line.number()?,
-    })
 }
 
-// What a line came to.
-#[derive(Clone, Copy)]
+// Kept: the new form is no plainer: the kind is an enum, and only what follows it in the line hangs on it.
+// A circle's centre and radius, with the axle up to 5 mm off; or how far off the vectors may be, which are read station by station.
+fn read_trial(line: &mut Line<'_>, kind: Kind, from: usize) -> Option<Trial> {
+    let (course, most) = match kind {
+        Kind::Circle => (Course::Circle(line.vector()?, line.number()?), 50),
+        Kind::Straight => (Course::Straight, line.number()?),
+    };
+    Some(Trial { course, from, most })
+}
+
+// What a line came to. The default stands for one that cannot be read: no rig went anywhere.
+#[derive(Clone, Copy, Default)]
 struct Outcome {
     units: usize,
     trial: Trial,
@@ -140,28 +149,13 @@ struct Outcome {
     is_whole: bool,
 }
 
-// Stands for a line that cannot be read: no rig went anywhere.
-const UNREAD: Outcome = Outcome {
-    units: 0,
-    trial: Trial {
-        course: Course::Straight,
-        from: 0,
-        most: 0,
-    },
-    found: Found {
-        stations: 0,
-        largest: None,
-    },
-    is_whole: false,
-};
-
 fn try_line(line: &[u8]) -> Option<Outcome> {
     let mut line = Line::of(line)?;
-    let on_circle = line.number::<usize>()? == 1;
+    let kind = read_kind(&mut line)?;
     let job = line.job()?;
     let from = line.number()?;
     line.equals_sign()?;
-    let trial = read_trial(&mut line, on_circle, from)?;
+    let trial = read_trial(&mut line, kind, from)?;
     let found = try_job(&mut line, trial, job);
     Some(Outcome {
         units: job.vehicle.count,
@@ -199,6 +193,6 @@ fn main(rt: HostRuntime) {
     let mut text = [0u8; 65536];
     let length = tables::read_table(&rt, "table.txt", &mut text).unwrap_or(0);
     for line in text[..length].split_inclusive(|b| *b == b'\n') {
-        report(&rt, try_line(line).unwrap_or(UNREAD));
+        report(&rt, try_line(line).unwrap_or_default());
     }
 }

@@ -10,24 +10,18 @@ pub const BEYOND: u32 = 1000;
 // The largest radius of a circle that is measured.
 const MOST_RADIUS: u32 = 500000;
 
-fn square(d: u32) -> i64
-    requires { d ≤ 2000000 }
-{
-    let z = i64::from(d);
-    z * z
-}
-
 // How far the root of n lies from what is wanted, rounded up, and 1000 where that is more.
-fn deviation(n: i64, wanted: u32) -> u32
-    requires { wanted ≤ 1000000 }
+fn deviation(n: u64, wanted: u32) -> u32
     ensures { result ≤ 1000 }
 {
-    for e in 0..BEYOND {
-        if square(wanted.saturating_sub(e)) <= n && n <= square(wanted + e) {
-            return e;
-        }
-    }
-    BEYOND
+    let wanted = u64::from(wanted);
+    let below = n.isqrt();
+    let above = if below * below < n { below + 1 } else { below };
+    let off = above
+        .saturating_sub(wanted)
+        .max(wanted.saturating_sub(below));
+    // Kept: the new form is no plainer: u32 has no From of a u64, and try_from would answer an error that cannot come.
+    off.min(u64::from(BEYOND)) as u32
 }
 
 // The sum of two places of the map, which is twice their middle.
@@ -49,7 +43,7 @@ pub fn off_circle(a: Vec2, b: Vec2, centre: Vec2, radius: u32) -> u32 {
         return BEYOND;
     }
     let off = match square_from_centre(a, b, centre) {
-        Some(n) => deviation(n, 2 * radius),
+        Some(n) => deviation(n.unsigned_abs(), 2 * radius),
         None => BEYOND,
     };
     off.div_ceil(2)
@@ -57,7 +51,7 @@ pub fn off_circle(a: Vec2, b: Vec2, centre: Vec2, radius: u32) -> u32 {
 
 pub fn between(a: Vec2, b: Vec2) -> u32 {
     match places::square_between(a, b) {
-        Some(n) => deviation(n, 0),
+        Some(n) => deviation(n.unsigned_abs(), 0),
         None => BEYOND,
     }
 }

@@ -18,7 +18,7 @@ enum Kind {
     CheckGeometry,
 }
 
-// The kinds in the order of their numbers, and what they are called.
+// The kinds in the order of their numbers.
 const KINDS: [Kind; 4] = [
     Kind::Read,
     Kind::Report,
@@ -26,12 +26,16 @@ const KINDS: [Kind; 4] = [
     Kind::CheckGeometry,
 ];
 
-const NAMES: [&str; 4] = [
-    "reading a geometry",
-    "report",
-    "report from a job and ticks",
-    "report from a job and a geometry",
-];
+impl Kind {
+    fn name(self) -> &'static str {
+        match self {
+            Kind::Read => "reading a geometry",
+            Kind::Report => "report",
+            Kind::CheckTicks => "report from a job and ticks",
+            Kind::CheckGeometry => "report from a job and a geometry",
+        }
+    }
+}
 
 impl Call for Kind {
     fn make(self, line: &mut Line<'_>) -> Option<()> {
@@ -56,8 +60,8 @@ fn report(rt: &impl Print, name: &str, count: Count) {
 }
 
 fn report_all(rt: &impl Print, counts: Counts<4>) {
-    for (name, count) in NAMES.iter().zip(&counts.kinds) {
-        report(rt, name, *count);
+    for (kind, count) in KINDS.iter().zip(&counts.kinds) {
+        report(rt, kind.name(), *count);
     }
     if let Some(line) = first_wrong(&counts) {
         let _written = println!(rt; "the first that does not is on line {line}");

@@ -33,18 +33,18 @@ fn path_end(j: Job, room: &mut PathRoom) -> Result<PathEnd, Fault>
 }
 
 // The least whole number whose square is at least n, and 1000 where that is more.
-fn root_above(n: i64) -> u16 {
-    (0..1000u16)
-        .find(|d| n <= i64::from(*d) * i64::from(*d))
-        .unwrap_or(1000)
+fn root_above(n: u64) -> u64 {
+    let root = n.isqrt();
+    let above = if root * root < n { root + 1 } else { root };
+    above.min(1000)
 }
 
 // The distance of two places in ticks, rounded up, and 1000 where it is more.
-fn distance(a: Vec2, b: Vec2) -> u16
+fn distance(a: Vec2, b: Vec2) -> u64
     requires { BothMeasurable a b }
 {
     let d = plane::minus(a, b);
-    root_above(plane::dot(d, d))
+    root_above(plane::dot(d, d).unsigned_abs())
 }
 
 // Document 002's sample path with an arc of so much on 10 m.
@@ -87,7 +87,7 @@ fn job_end(j: Job, gys: &mut [i32]) -> Result<PathEnd, Fault>
 
 // One line: the stations, how far the last lies from its target, and whether both are as they should be. What cannot be written is lost: a trial
 // has nowhere else to tell it.
-fn report(rt: &impl Print, name: &str, j: Job, wanted: PathEnd, most: u16)
+fn report(rt: &impl Print, name: &str, j: Job, wanted: PathEnd, most: u64)
     requires { Measurable wanted.position }
 {
     let mut gys = [0i32; 2001];
@@ -113,7 +113,8 @@ fn report_refusal(rt: &impl Print, name: &str, given: Option<Fault>, wanted: Fau
     let _written = println!(rt; "{name}: refused {number}: {verdict}");
 }
 
-fn main(rt: HostRuntime) {
+// The place of the last station is held to where it should be.
+fn report_ends(rt: &impl Print) {
     let quarter = PathEnd {
         stations: 85,
         position: Vec2 {
@@ -121,7 +122,7 @@ fn main(rt: HostRuntime) {
             y: -300000,
         },
     };
-    report(&rt, "quarter turn", sample_job(157080), quarter, 200);
+    report(rt, "quarter turn", sample_job(157080), quarter, 200);
     let half = PathEnd {
         stations: 116,
         position: Vec2 {
@@ -129,13 +130,13 @@ fn main(rt: HostRuntime) {
             y: -200000,
         },
     };
-    report(&rt, "half turn", sample_job(314160), half, 200);
+    report(rt, "half turn", sample_job(314160), half, 200);
     let north = PathEnd {
         stations: 2001,
         position: Vec2 { x: 0, y: 40000000 },
     };
     let straight = long_job(Curve::Straight, 1);
-    report(&rt, "2,000 steps straight", straight, north, 0);
+    report(rt, "2,000 steps straight", straight, north, 0);
     let round = PathEnd {
         stations: 2001,
         position: Vec2 {
@@ -144,13 +145,21 @@ fn main(rt: HostRuntime) {
         },
     };
     let arc = long_job(Curve::Arc(Side::Right, 1000000), 1);
-    report(&rt, "2,000 steps on an arc", arc, round, 0);
+    report(rt, "2,000 steps on an arc", arc, round, 0);
+}
+
+fn report_refusals(rt: &impl Print) {
     let mut gys = [0i32; 2001];
     let longer = job_end(long_job(Curve::Straight, 2), &mut gys).err();
-    report_refusal(&rt, "2,001 steps", longer, Fault::StepTotal);
+    report_refusal(rt, "2,001 steps", longer, Fault::StepTotal);
     let pointless = job_end(long_job(Curve::Arc(Side::Left, 0), 1), &mut gys).err();
-    report_refusal(&rt, "an arc of radius 0", pointless, Fault::Element);
+    report_refusal(rt, "an arc of radius 0", pointless, Fault::Element);
     let mut short = [0i32; 84];
     let cramped = job_end(sample_job(157080), &mut short).err();
-    report_refusal(&rt, "a run one entry short", cramped, Fault::RunTooShort);
+    report_refusal(rt, "a run one entry short", cramped, Fault::RunTooShort);
+}
+
+fn main(rt: HostRuntime) {
+    report_ends(&rt);
+    report_refusals(&rt);
 }

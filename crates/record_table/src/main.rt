@@ -9,6 +9,7 @@ use job::Job;
 use refusal::Fault;
 use std::str;
 use trial_tools::counts::Count;
+use trial_tools::reading::number_in;
 use trial_tools::tables;
 
 // No record of the table fits 20 bytes: 28, and nothing is written.
@@ -66,8 +67,14 @@ fn is_of_number(b: u8) -> bool {
     b.is_ascii_digit() || b == b'-'
 }
 
-fn number_in(word: &[u8]) -> Option<i32> {
-    str::from_utf8(word).ok()?.parse().ok()
+fn number_of(word: &[u8]) -> Option<i32> {
+    number_in(str::from_utf8(word).ok()?)
+}
+
+// The cases are numbered from 1.
+fn enter(count: &mut Count, answer: Option<()>) {
+    let number = count.all.wrapping_add(1);
+    count.enter(number, answer);
 }
 
 fn try_cases(table: &[u8]) -> Count {
@@ -78,16 +85,16 @@ fn try_cases(table: &[u8]) -> Count {
         if !word.iter().any(|b| b.is_ascii_digit()) {
             continue;
         }
-        numbers[read] = number_in(word);
+        numbers[read] = number_of(word);
         read += 1;
         if read == numbers.len() {
-            count.enter(0, try_case(numbers));
+            enter(&mut count, try_case(numbers));
             read = 0;
         }
     }
     // A case that is cut short does not hold.
     if read != 0 {
-        count.enter(0, None);
+        enter(&mut count, None);
     }
     count
 }

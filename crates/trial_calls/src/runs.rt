@@ -28,7 +28,10 @@ impl PathArrays {
     }
 
     pub fn read(&mut self, line: &mut Line<'_>) -> Option<PathRoom<'_>>
-        ensures { IfSome result (λ room. length room.gys.now ≤ 2002) }
+        ensures xs { IfSome result (λ room. length room.xs.now ≤ 2002) }
+        ensures ys { IfSome result (λ room. length room.ys.now ≤ 2002) }
+        ensures gxs { IfSome result (λ room. length room.gxs.now ≤ 2002) }
+        ensures gys { IfSome result (λ room. length room.gys.now ≤ 2002) }
     {
         let PathArrays { xs, ys, gxs, gys } = self;
         Some(PathRoom {
@@ -58,7 +61,9 @@ impl ReachArrays {
     }
 
     pub fn read(&mut self, line: &mut Line<'_>) -> Option<ReachRoom<'_>>
-        ensures { IfSome result (λ room. length room.marks.now ≤ 2002) }
+        ensures left { IfSome result (λ room. length room.left.now ≤ 2002) }
+        ensures right { IfSome result (λ room. length room.right.now ≤ 2002) }
+        ensures marks { IfSome result (λ room. length room.marks.now ≤ 2002) }
     {
         let ReachArrays { left, right, marks } = self;
         Some(ReachRoom {

@@ -1,5 +1,6 @@
 // Where the points of a rig are, and how far places lie apart.
-ghost use Rattle.std.specs.Prelude.{true, ◌≡◌};
+ghost use Rattle.std.specs.Prelude.{true, ◌≡◌, IfSome};
+ghost use Rattle.plane.specs.Vector.{minus, norm_sq};
 ghost use Rattle.points.specs.Requires.{PlaceSized};
 
 use path::{Path, Station};
@@ -18,7 +19,9 @@ pub fn is_on_map(v: Vec2) -> bool
 }
 
 // The squared distance of two places, where both are on the map.
-pub fn square_between(a: Vec2, b: Vec2) -> Option<i64> {
+pub fn square_between(a: Vec2, b: Vec2) -> Option<i64>
+    ensures { IfSome result (λ n. n ≡ norm_sq (minus a b)) }
+{
     if !is_on_map(a) || !is_on_map(b) {
         return None;
     }

@@ -1,40 +1,44 @@
 // Sample rigs, all of short jobs, and jobs for them.
-ghost use Rattle.std.specs.Prelude.{◌≡◌};
+ghost use Rattle.std.specs.Prelude.{◌≡◌, pos};
+ghost use Rattle.job.specs.Empty.{empty_body};
+ghost use Rattle.job.specs.declared.Curve.TheVariants.{Straight, Arc};
+ghost use Rattle.job.specs.declared.Side.TheVariants.{Right};
 ghost use Rattle.path.specs.Lent.{path_of};
 ghost use Rattle.walk.specs.Drawn.{view};
 ghost use Rattle.reaches.specs.Lent.{room_reaches, SameLoans};
 ghost use Rattle.stations.specs.Placing.{call_of};
 ghost use Rattle.trial_tools.specs.Placed.{walk_placed, runs_placed};
 
-use job::{Body, Curve, Element, Form, Job, Side, Start, Unit, Vehicle};
+use job::{Curve, Element, Form, Job, Side, Start, Unit, Vehicle};
 use path::Path;
 use plane::Vec2;
 use reaches::ReachRoom;
 use walk::Walk;
 
 // A unit of a short job, whose body is not read.
-pub fn unit(wheelbase: u32, hitch: i32, fold: i32) -> Unit {
-    let body = Body {
-        front_overhang: 0,
-        rear_overhang: 0,
-        half_width: 0,
-    };
+pub fn unit(wheelbase: u32, hitch: i32, fold: i32) -> Unit
+    ensures { result ≡ record { wheelbase = wheelbase; hitch = hitch; fold = fold; body = empty_body } }
+{
     Unit {
         wheelbase,
         hitch,
         fold,
-        body,
+        body: job::empty_body(),
     }
 }
 
-pub fn straight(length: u32) -> Element {
+pub fn straight(length: u32) -> Element
+    ensures { result ≡ record { length = length; curve = Straight } }
+{
     Element {
         length,
         curve: Curve::Straight,
     }
 }
 
-pub fn right_turn(length: u32, radius: u32) -> Element {
+pub fn right_turn(length: u32, radius: u32) -> Element
+    ensures { result ≡ record { length = length; curve = Arc Right radius } }
+{
     Element {
         length,
         curve: Curve::Arc(Side::Right, radius),
@@ -43,7 +47,9 @@ pub fn right_turn(length: u32, radius: u32) -> Element {
 
 // A start at the origin.
 // Kept: the new form is no plainer: a start holds these two numbers by themselves.
-pub fn heading_for(gx: i32, gy: i32) -> Start {
+pub fn heading_for(gx: i32, gy: i32) -> Start
+    ensures { result ≡ record { x = pos 0; y = pos 0; gx = gx; gy = gy } }
+{
     Start { x: 0, y: 0, gx, gy }
 }
 
