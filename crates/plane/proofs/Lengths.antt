@@ -4,7 +4,7 @@ use mathlib.Core.List.{List, [], ◌∷◌}
 use mathlib.Core.Bool.{Bool, true, false, ◌&&◌}
 use Prim.Native.Nat.{ℕ, ◌*◌, ◌≤◌}
 use native.Mathlib.Omega.{arith}
-use lib.Dec.{T, leb, le→leb, leb→le}
+use lib.Dec.{T, leb, lit≤, le→leb, leb→le}
 use lib.IntN.{ℤ, pos, negsuc, nat_abs, neg_ℤ, ◌+ℤ◌, ◌-ℤ◌, ◌*ℤ◌}
 use lib.Signed.{◌≤ℤ◌, le_z}
 use Rattle.std.proofs.lemmas.Bool.{and_from}
@@ -12,7 +12,7 @@ use Rattle.exact.specs.Size.{Within}
 use Rattle.exact.proofs.Polynomial.{◌⊕◌, ◌⊖◌, ◌⊗◌, neg, lit, var, and_left, and_right}
 use Rattle.exact.proofs.Order.{by_contradiction, of_true}
 use Rattle.exact.proofs.Certificate.{◌⊞◌, ◌⊠◌, ◌·◌, num, sq, hyp, le, never}
-use Rattle.exact.proofs.Sizes.{within, ≤-size, ≥-size}
+use Rattle.exact.proofs.Sizes.{within, within_more, ≤-size, ≥-size}
 use Rattle.plane.specs.declared.Vec2.{Vec2}
 use Rattle.plane.specs.Vector.{norm_sq, Moderate, BothModerate}
 use Rattle.plane.specs.Length.{in_box, has_length, Near, Nominal}
@@ -60,18 +60,22 @@ coordinates x y k k0 h = (below x y h, coordinate-≤ x y k k0 h, below y x (swa
 pub nominal_within : {k : ℤ} → Nominal k → Within 1000000 k
 nominal_within {k} n = within (le {ρ = k ∷ []} (neg (lit 1000000)) (var 0) (hyp (lit 5000) (var 0) n.least ⊞ num 1005000) tt) n.most
 
--- a vector in the box can be squared
-pub box_moderate : {v : Vec2} {k : ℤ} → Nominal k → in_box v k ≡ true → BothModerate v v
+-- a vector in the box has coordinates of a heading's size, and can be squared
+pub box_within : (v : Vec2) (k : ℤ) → Nominal k → in_box v k ≡ true → Within 1000000 v.x × Within 1000000 v.y
 unfolding in_box
-box_moderate {v} {k} n e =
+box_within v k n e =
     let a = leb (nat_abs v.x) (nat_abs k) in
     let b = leb (nat_abs v.y) (nat_abs k) in
     let t : T (a && b) = of_true e in
-    let s = (nominal_within n).size in
-    let m : Moderate v = record {
-      x = record { size = omega (arith, leb→le (nat_abs v.x) (nat_abs k) (and_left a b t), s) };
-      y = record { size = omega (arith, leb→le (nat_abs v.y) (nat_abs k) (and_right a b t), s) };
-    } in
+    let s = (nominal_within n).size in (
+      record { size = omega (arith, leb→le (nat_abs v.x) (nat_abs k) (and_left a b t), s) },
+      record { size = omega (arith, leb→le (nat_abs v.y) (nat_abs k) (and_right a b t), s) },
+    )
+
+pub box_moderate : {v : Vec2} {k : ℤ} → Nominal k → in_box v k ≡ true → BothModerate v v
+box_moderate {v} {k} n e =
+    let b = box_within v k n e in
+    let m : Moderate v = record { x = within_more (lit≤ tt) b.0; y = within_more (lit≤ tt) b.1 } in
     record { first = m; second = m }
 
 within_self : (z k : ℤ) → pos 0 ≤ℤ k → neg_ℤ k ≤ℤ z → z ≤ℤ k → leb (nat_abs z) (nat_abs k) ≡ true

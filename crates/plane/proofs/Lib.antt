@@ -1,4 +1,5 @@
 pub mod Lengths
+pub mod Stores
 pub mod Pairs
 pub mod SettleSizes
 pub mod Rounded

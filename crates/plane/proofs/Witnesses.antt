@@ -2,13 +2,14 @@
 use mathlib.Core.Path.{refl}
 use lib.IntN.{ℤ, pos, negsuc}
 use lib.Signed.{le_z_yes}
-use lib.Dec.{lit≤}
+use lib.Dec.{lit<, lit≤}
 use Rattle.exact.proofs.Witnesses.{divisor_met}
 use Rattle.plane.specs.declared.Vec2.{Vec2}
 use Rattle.plane.specs.Vector.{Moderate, BothModerate}
 use Rattle.plane.specs.Length.{Nominal}
 use Rattle.plane.specs.Settle.{Settleable}
 use Rattle.plane.specs.Drawn.{Drawable, Turned}
+use Rattle.plane.specs.Run.{Entry, Stored}
 use Rattle.plane.proofs.Keeping.{turned_drawable}
 
 abbrev vec : ℤ → ℤ → Vec2
@@ -34,3 +35,9 @@ turned_met = record { divisor = divisor_met; nominal = longest_met; near = recor
 
 drawable_met : Drawable (vec (pos 800000) (negsuc 599999)) (pos 1) (pos 1000000)
 drawable_met = turned_drawable _ _ _ _ turned_met
+
+entry_met : Entry 0 1
+entry_met = record { inside = lit< tt }
+
+stored_met : Stored 0 1 (negsuc 2147483647)
+stored_met = record { inside = lit< tt; least = le_z_yes tt; most = le_z_yes tt }

@@ -3,3 +3,4 @@ pub mod Wheelbase
 pub mod Length
 pub mod Settle
 pub mod Drawn
+pub mod Run

@@ -1,12 +1,13 @@
 // Vectors in the plane, and the one way in which a turned vector is drawn.
 #![tactic(auto)]
 
-ghost use Rattle.std.specs.Prelude.{◌≡◌};
+ghost use Rattle.std.specs.Prelude.{◌≡◌, pos, length, get_or, set};
 ghost use Rattle.exact.specs.Nearest.{Divisor};
 ghost use Rattle.plane.specs.Vector.{dot as dot_z, plus as plus_z, minus as minus_z, times, nearest_v, BothModerate, Scalable};
 ghost use Rattle.plane.specs.Length.{in_box, has_length, Nominal};
 ghost use Rattle.plane.specs.Settle.{settle_z, Settleable};
 ghost use Rattle.plane.specs.Drawn.{drawn, Drawable, DrawnRule};
+ghost use Rattle.plane.specs.Run.{Entry, Stored};
 
 #[derive(Clone, Copy, PartialEq, Eq)]
 pub struct Vec2 {
@@ -106,3 +107,21 @@ pub fn draw(w: Vec2, q: i64, k: i64) -> Vec2
 pub fn drawn_rule()
     ensures { DrawnRule }
 {}
+
+// An entry of a run, wide.
+// Kept: it is open to callers, who may count on it.
+pub fn get(s: &[i32], i: usize) -> i64
+    requires { Entry i (length s.now) }
+    ensures { result ≡ get_or s.now i (pos 0) }
+{
+    i64::from(s[i])
+}
+
+// An entry of a run is set.
+// Kept: as `get` is.
+pub fn put(s: &mut [i32], i: usize, v: i64)
+    requires { Stored i (length s.old) v }
+    ensures { s.new ≡ set s.old i v }
+{
+    s[i] = v as i32;
+}
