@@ -1,5 +1,5 @@
 -- Each number that announces a vehicle has one meaning, and each meaning one number. Assumes nothing.
-use Prim.Native.Nat.{ℕ, ◌+◌, ◌-◌, ◌≤◌}
+use Prim.Native.Nat.{ℕ, ◌+◌, ◌-◌, ◌≤◌, ◌<◌}
 use mathlib.Core.Path.{◌≡◌, refl}
 use mathlib.Core.Bool.{Bool, true, false, ◌||◌}
 use native.Mathlib.Omega.{arith}
@@ -45,6 +45,9 @@ announced_by n t = either (between 1 4 n) (between 11 14 n) t
     let k : between 1 4 (n - 10) ≡ true = inside 1 4 (n - 10) (omega arith) (omega arith) in
     rw high (k, omega arith))
 
--- and no number above 14 announces anything
+-- where it is no short job's it has the 10 to take away, and it is at most 14
+pub announced_least : (n : ℕ) → announces n ≡ true → 4 < n → 10 ≤ n
+announced_least n t h = either (between 1 4 n) (between 11 14 n) t (λ s. omega (arith, (range 1 4 n s).1)) (λ l. omega (arith, (range 11 14 n l).0))
+
 pub announced_most : (n : ℕ) → announces n ≡ true → n ≤ 14
 announced_most n t = either (between 1 4 n) (between 11 14 n) t (λ s. omega (arith, (range 1 4 n s).1)) (λ l. (range 11 14 n l).1)

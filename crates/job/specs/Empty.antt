@@ -1,5 +1,5 @@
 -- "Unused units come back zero and unused elements as straights of length 0" (01, "The job record"), "A short job's
--- body fields come back zero" (02, N3).
+-- body fields come back zero" (02, N3); the empty job has none in use.
 use Rattle.std.specs.Prelude.{ℕ, List, map, replicate, take, pos}
 use Rattle.std.proofs.lemmas.List.Edits.{sets}
 use Rattle.job.specs.declared.Curve.TheVariants.{Straight}
@@ -9,6 +9,7 @@ use Rattle.job.specs.declared.Form.{Form}
 use Rattle.job.specs.declared.Form.TheVariants.{Short, Long}
 use Rattle.job.specs.declared.Unit.{Unit as VehicleUnit}
 use Rattle.job.specs.declared.Vehicle.{Vehicle}
+use Rattle.job.specs.declared.Start.{Start}
 use Rattle.job.specs.declared.Job.{Job}
 
 abbrev pub empty_body : Body
@@ -28,6 +29,12 @@ empty_elements = replicate 64 empty_element
 
 abbrev pub empty_vehicle : Vehicle
 empty_vehicle = record { form = Short; count = 0; units = empty_units; overhang = 0; front_half_width = 0; rear_half_width = 0 }
+
+abbrev pub empty_start : Start
+empty_start = record { x = pos 0; y = pos 0; gx = pos 0; gy = pos 0 }
+
+unfoldable pub empty_job : Job
+empty_job = record { vehicle = empty_vehicle; start = empty_start; step = 0; count = 0; elements = empty_elements }
 
 -- a unit without the body that a short job does not have
 abbrev pub cleared_body : Form → Body → Body

@@ -1,8 +1,8 @@
 // What unused entries of a job hold.
 ghost use Rattle.std.specs.Prelude.{◌≡◌};
-ghost use Rattle.job.specs.Empty.{empty_body, empty_units, empty_elements};
+ghost use Rattle.job.specs.Empty.{empty_body, empty_units, empty_elements, empty_vehicle, empty_job};
 
-use crate::{Body, Curve, Element, Unit};
+use crate::{Body, Curve, Element, Form, Job, Start, Unit, Vehicle};
 
 pub fn empty_body() -> Body
     ensures { result ≡ empty_body }
@@ -34,4 +34,36 @@ pub fn empty_elements() -> [Element; 64]
         length: 0,
         curve: Curve::Straight,
     }; 64]
+}
+
+// A vehicle and a job that have nothing in use.
+pub fn empty_vehicle() -> Vehicle
+    ensures { result ≡ empty_vehicle }
+{
+    Vehicle {
+        form: Form::Short,
+        count: 0,
+        units: empty_units(),
+        overhang: 0,
+        front_half_width: 0,
+        rear_half_width: 0,
+    }
+}
+
+#[tactic(auto, unfolding(crate::specs::Empty::empty_job))]
+pub fn empty_job() -> Job
+    ensures { result ≡ empty_job }
+{
+    Job {
+        vehicle: empty_vehicle(),
+        start: Start {
+            x: 0,
+            y: 0,
+            gx: 0,
+            gy: 0,
+        },
+        step: 0,
+        count: 0,
+        elements: empty_elements(),
+    }
 }

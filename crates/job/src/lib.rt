@@ -13,7 +13,7 @@ ghost use Rattle.job.specs.Faults.{vehicle_fault, judge as judge_of};
 ghost use Rattle.job.specs.Inner.{Countable};
 ghost use Rattle.refusal.specs.Numbers.{fault_number};
 
-pub use empty::{empty_body, empty_elements, empty_units};
+pub use empty::{empty_body, empty_elements, empty_job, empty_units, empty_vehicle};
 use number::Range;
 use plane::Vec2;
 use refusal::Fault;
