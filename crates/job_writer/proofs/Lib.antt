@@ -1,5 +1,6 @@
 pub mod AppendLaws
 pub mod AnswerLaws
+pub mod CurveLaws
 pub mod LengthLaws
 pub mod PartCodecs
 pub mod Reach

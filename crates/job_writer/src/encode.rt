@@ -16,7 +16,7 @@ use job::{Body, Curve, Element, Form, Job, Side, Start, Unit, Vehicle};
 // The bytes of a record so far, and their number.
 // Kept: a rule of the project needs an array with its count: there is no heap; no record is over 520 bytes.
 #[derive(Clone, Copy)]
-pub(crate) struct Encoded {
+pub struct Encoded {
     pub bytes: [u8; 520],
     pub at: usize,
 }

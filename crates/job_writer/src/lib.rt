@@ -6,6 +6,7 @@ mod encode;
 ghost use Rattle.job_writer.specs.Answers.{WriteEnsures};
 ghost use Rattle.job_writer.specs.Claims.{OneEncoding, RecordLength};
 
+pub use encode::Encoded;
 use job::Job;
 use refusal::Fault;
 
