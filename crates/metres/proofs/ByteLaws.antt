@@ -1,7 +1,7 @@
--- The number that bytes make: as the machine makes it, and how large it is.
+-- The number that bytes make: one byte more in front, as the machine makes it, and how large it is.
 use mathlib.Core.Path.{◌≡◌, refl, ◌∙◌, ap}
 use mathlib.Core.List.{List, ◌++◌}
-use Prim.Native.Nat.{ℕ, zero, suc, ◌+◌, ◌-◌, ◌^◌, ◌≤◌, ◌<◌}
+use Prim.Native.Nat.{ℕ, zero, suc, ◌+◌, ◌*◌, ◌-◌, ◌^◌, ◌≤◌, ◌<◌}
 use native.Mathlib.Nat.{pow-suc, add-zero, add_assoc}
 use mir.Syntax.{w64}
 use Rattle.std.specs.Int.{from_le_bytes}
@@ -9,6 +9,18 @@ use native.Mathlib.Omega.{arith}
 use lib.ListN.{length, take, drop, replicate, get_or, length-take, length-drop}
 use Rattle.std.proofs.lemmas.List.{get_or_append_left, get_or-append_right, get_or-take, get_or-drop}
 use Rattle.metres.specs.Bytes.{little_endian}
+
+pub none_read : (s : List ℕ) (at : ℕ) → little_endian 0 s at ≡ 0
+unfolding little_endian
+none_read s at = refl
+
+-- one byte more in front, with the counts as a loop that runs down from n has them
+pub one_more : (n i : ℕ) (s : List ℕ) (at : ℕ) → 0 < i → i ≤ n → get_or s (at + (i - 1)) 0 + 256 * little_endian (n - i) s (at + i) ≡ little_endian (n - (i - 1)) s (at + (i - 1))
+unfolding little_endian
+one_more n i s at h k =
+    let a : at + i ≡ at + (i - 1) + 1 = omega arith in
+    let b : suc (n - i) ≡ n - (i - 1) = omega arith in
+    ap (λ (x : ℕ). get_or s (at + (i - 1)) 0 + 256 * little_endian (n - i) s x) a ∙ ap (λ (x : ℕ). little_endian x s (at + (i - 1))) b
 
 -- the same bytes in two lists
 agree : (n : ℕ) (s t : List ℕ) (at i : ℕ) → ((k : ℕ) → k < n → get_or t (i + k) 0 ≡ get_or s (at + k) 0) → little_endian n t i ≡ little_endian n s at

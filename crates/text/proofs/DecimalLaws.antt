@@ -60,6 +60,9 @@ count_one n h = rw (decimal_one n h)
 pub count_more : (n : ℕ) → 10 ≤ n → length (decimal n) ≡ length (decimal (n / 10)) + 1
 count_more n h = rw (decimal_more n h) (omega (arith, length-append (decimal (n / 10)) (digit (n % 10) ∷ [])))
 
+pub some_digit : (n : ℕ) → 1 ≤ length (decimal n)
+some_digit n = either n (λ s. omega (arith, count_one n s)) (λ g. omega (arith, count_more n g))
+
 ten_power : (k : ℕ) → 1 ≤ 10 ^ k
 ten_power zero = omega arith
 ten_power (suc k) = omega (arith, pow-suc 10 k, ten_power k)

@@ -5,14 +5,18 @@ use mathlib.Core.List.{List, [], ◌∷◌, ◌++◌}
 use mathlib.Core.Bool.{Bool, true, false}
 use native.Mathlib.Omega.{arith}
 use native.Mathlib.Numerals.{add-one}
+use lib.Dec.{leb}
 use lib.ListN.{length, drop, get_or, length-append, drop_of_length-le}
 use lib.Seq.{drop-cons}
-use borrow.Author.Tests.{le-leb, lt-leb}
+use borrow.Author.Tests.{leb-true, le-leb, lt-leb}
 use Rattle.std.proofs.lemmas.Bool.{and_parts}
 use Rattle.text.specs.Decimal.{digit, decimal}
 use Rattle.text.specs.Reading.{is_digit, all_digits, value_after, largest, read_if, read_decimal, RoundTrip}
 use Rattle.std.proofs.Common.{Option, Some, None}
 use Rattle.text.proofs.DecimalLaws.{either, decimal_one, decimal_more}
+
+pub digit_bounds : (b : ℕ) → is_digit b ≡ true → (48 ≤ b) × (b ≤ 57)
+digit_bounds b h = let t = and_parts (leb 48 b) (leb b 57) h in (leb-true 48 b t.0, leb-true b 57 t.1)
 
 -- what is left of a text, after digits whose value is v
 abbrev rest_of : ℕ → List ℕ → Option ℕ

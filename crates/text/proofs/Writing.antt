@@ -6,8 +6,8 @@ use native.Mathlib.Omega.{arith}
 use native.Mathlib.Nat.{add-zero}
 use borrow.Rule.Slice.PartMut.{put_mid}
 use mathlib.Core.List.{append_assoc}
-use lib.ListN.{length, set, length-set}
-use lib.Seq.{sets, sets-eq, set_comm, drop-drop}
+use lib.ListN.{length, set, drop, get_or, length-set, drop_of_length-le}
+use lib.Seq.{sets, sets-eq, set_comm, drop-cons, drop-drop}
 use Rattle.text.specs.Decimal.{digit, digits}
 use Rattle.text.proofs.DecimalLaws.{digits_length}
 
@@ -17,6 +17,27 @@ sets_last l i [] x = rw add-zero
 sets_last l i (y ∷ a) x =
     sets_last (set l i y) (suc i) a x
     ∙ ap (λ (m : List _). sets m (suc i) a) (ap (λ (j : ℕ). set (set l i y) j x) (omega arith) ∙ set_comm l i (i + suc (length a)) y x (λ e. omega arith))
+
+-- the bytes from i on are left to copy
+pub record Copying (d₀ : List ℕ) (at : ℕ) (bytes d : List ℕ) (i : ℕ) : Type 0 where
+  pub same : sets d (at + i) (drop i bytes) ≡ sets d₀ at bytes
+  pub long : length d ≡ length d₀
+
+module _ (d₀ : List ℕ) (at : ℕ) (bytes : List ℕ) where
+  pub copy_start : Copying d₀ at bytes d₀ 0
+  copy_start = record { same = rw add-zero; long = refl }
+
+  pub copy_next : (d : List ℕ) (i : ℕ) → i < length bytes → Copying d₀ at bytes d i → Copying d₀ at bytes (set d (at + i) (get_or bytes i 0)) (i + 1)
+  copy_next d i h c = record {
+    same =
+        let e : at + (i + 1) ≡ suc (at + i) = omega arith in
+        let f : i + 1 ≡ suc i = omega arith in
+        rw (e, f) (rw (drop-cons bytes i 0 h) at c.same);
+    long = length-set d (at + i) (get_or bytes i 0) ∙ c.long;
+  }
+
+  pub copy_end : (d : List ℕ) (i : ℕ) → length bytes ≤ i → Copying d₀ at bytes d i → d ≡ sets d₀ at bytes
+  copy_end d i h c = rw (drop_of_length-le bytes {i = i} h) at c.same
 
 -- a text written into the part of a run from a position on, as a slice of the run holds it afterwards
 pub copied : (run : List ℕ) (at : ℕ) (bytes : List ℕ) → at + length bytes ≤ length run → put_mid at (at + length bytes - at) run bytes ≡ sets run at bytes
