@@ -83,7 +83,7 @@ written_entry tick vs run i h l =
     ∙ get_or-append (map tick vs) _ (pos 0) i k ∙ get_or_default (map tick vs) i (pos 0) (tick no_vertex) k ∙ get_or-map tick vs i no_vertex
 
 -- both runs have room, or one is too short
-both_room : (n : ℕ) (xs ys : List ℤ) → room_in n xs ys ≡ true → (n ≤ length xs) × (n ≤ length ys)
+pub both_room : (n : ℕ) (xs ys : List ℤ) → room_in n xs ys ≡ true → (n ≤ length xs) × (n ≤ length ys)
 both_room n xs ys e = let p = and_parts (leb n (length xs)) (leb n (length ys)) e in (leb-true n _ p.0, leb-true n _ p.1)
 
 pub roomy : (n : ℕ) (xs ys : List ℤ) → n ≤ length xs → n ≤ length ys → room_in n xs ys ≡ true

@@ -4,19 +4,27 @@ use mathlib.Core.Path.{◌≡◌, refl, sym, ◌∙◌, ap, subst}
 use mathlib.Core.List.{List, map}
 use native.Mathlib.Omega.{arith}
 use native.Mathlib.Numerals.{add-one}
-use lib.IntN.{ℤ}
+use lib.Dec.{lit≤}
+use lib.IntN.{ℤ, pos, negsuc, neg_ℤ}
+use lib.Signed.{le_z_yes}
 use lib.ListN.{length, get_or, drop, set, drop_of_length-le}
 use lib.Seq.{sets, drop-cons}
 use mir.Syntax.{w32, w64}
 use mir.Val.{SFits}
 use mir.Facts.{to_z-of_z}
 use Rattle.exact.specs.Size.{Within}
-use Rattle.exact.proofs.Sizes.{fits64, mag-≤-abs}
+use Rattle.exact.proofs.Order.{≤ℤ-trans, pos-≤}
+use Rattle.exact.proofs.Sizes.{fits64, mag-≤-abs, ≤-size, ≥-size}
 use Rattle.exact.proofs.Machine.{reread, reread32}
+use Rattle.plane.specs.Run.{Stored}
 use Rattle.metres.specs.Tick.{ticks_most}
 use Rattle.metres.specs.declared.Vertex.{Vertex}
 use Rattle.kerb_reader.specs.Geometry.{no_vertex}
 use Rattle.kerb_reader.specs.Ticks.{east_of, north_of}
+
+-- a tick fits an entry of a run
+pub stored_tick : {z : ℤ} (i n : ℕ) → i < n → Within ticks_most z → Stored i n z
+stored_tick i n h w = record { inside = h; least = ≤ℤ-trans (le_z_yes {a = negsuc 2147483647} {b = neg_ℤ (pos ticks_most)} tt) (≥-size w); most = ≤ℤ-trans (≤-size w) (pos-≤ (lit≤ tt)) }
 
 -- a tick fits 32 bits, and is read back from them as it is
 fits32 : {z : ℤ} → Within ticks_most z → SFits w32 z

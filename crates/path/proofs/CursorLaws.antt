@@ -1,10 +1,10 @@
 -- The length of a cursor's next step, and what the step asks.
 use mathlib.Core.Path.{◌≡◌, refl}
 use mathlib.Core.Bool.{Bool, true, false}
-use Prim.Native.Nat.{ℕ, ◌+◌, ◌-◌, ◌≤◌, min}
+use Prim.Native.Nat.{ℕ, ◌+◌, ◌-◌, ◌≤◌, ◌<◌, min}
 use native.Mathlib.Omega.{arith}
-use borrow.Author.Tests.{leb-true, leb-false}
-use lib.Dec.{leb}
+use borrow.Author.Tests.{leb-true, leb-false, lt-ltb, le-ltb}
+use lib.Dec.{leb, ltb}
 use Rattle.number.specs.Read.{pick}
 use Rattle.job.specs.declared.Element.{Element}
 use Rattle.path.specs.declared.PathCursor.{PathCursor}
@@ -25,6 +25,14 @@ least_is a b = by (leb a b) refl
     by : (t : Bool) → leb a b ≡ t → min a b ≡ pick t a b
     by true e = omega (arith, leb-true a b e)
     by false e = omega (arith, leb-false a b e)
+
+-- whether any ticks of an element are left
+module _ (behind length : ℕ) where
+  pub ticks_left_lem : 0 < length - behind → ltb behind length ≡ true
+  ticks_left_lem h = lt-ltb behind length (omega arith)
+
+  pub none_left : length - behind ≤ 0 → ltb behind length ≡ false
+  none_left h = le-ltb behind length (omega arith)
 
 module _ (step : ℕ) (e : Element) (c : PathCursor) (t : OnElement step e c) where
   pub step_length_lem : (1 ≤ step_length e.length c.before step) × (step_length e.length c.before step ≤ step) × (c.before + step_length e.length c.before step ≤ e.length)

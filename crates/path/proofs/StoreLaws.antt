@@ -1,18 +1,27 @@
 -- What a station's coordinates and a run's room say of one entry written.
-use Prim.Native.Nat.{ℕ, ◌≤◌}
+use Prim.Native.Nat.{ℕ, ◌≤◌, ◌<◌}
 use mathlib.Core.Path.{◌≡◌, sym, ◌∙◌, subst}
 use mathlib.Core.Bool.{true, ◌&&◌}
 use native.Mathlib.Omega.{arith}
 use borrow.Author.Tests.{leb-true}
-use lib.Dec.{leb}
+use lib.Dec.{leb, lit≤}
 use lib.ListN.{length}
-use lib.IntN.{ℤ, pos, negsuc}
+use lib.IntN.{ℤ, pos, negsuc, neg_ℤ}
+use lib.Signed.{le_z_yes}
 use mir.Syntax.{w32}
 use mir.Val.{SFits, to_z, of_z}
 use mir.Facts.{to_z-of_z}
 use Rattle.std.proofs.lemmas.Bool.{and_parts}
 use Rattle.exact.specs.Size.{Within}
+use Rattle.exact.proofs.Order.{≤ℤ-trans, pos-≤}
+use Rattle.exact.proofs.Sizes.{≤-size, ≥-size}
+use Rattle.plane.specs.Run.{Stored}
 use Rattle.path.specs.Laying.{PathRuns, room_for}
+
+pub stored_entry : {b : ℕ} {z : ℤ} (i n : ℕ) → b ≤ 150000000 → i < n → Within b z → Stored i n z
+stored_entry {b} {z} i n k h w =
+    let w' : Within 150000000 z = record { size = omega (arith, w.size) } in
+    record { inside = h; least = ≤ℤ-trans (le_z_yes {a = negsuc 2147483647} {b = neg_ℤ (pos 150000000)} tt) (≥-size w'); most = ≤ℤ-trans (≤-size w') (pos-≤ (lit≤ tt)) }
 
 -- a coordinate fits an entry of 32 bits, as the machine has it, and is read back as it was
 fits32 : {b : ℕ} (z : ℤ) → b ≤ 150000000 → Within b z → SFits w32 z
