@@ -1,8 +1,8 @@
--- What is answered where a run has the room, and what is told of an answer by another name.
-use Prim.Native.Nat.{ℕ, ◌≤◌}
-use mathlib.Core.Path.{◌≡◌, ap, subst}
+-- What is answered where a run is too short and where it has the room, and what is told of an answer by another name.
+use Prim.Native.Nat.{ℕ, ◌≤◌, ◌<◌}
+use mathlib.Core.Path.{◌≡◌, refl, ap, subst}
 use mathlib.Core.List.{List}
-use borrow.Author.Tests.{le-leb}
+use borrow.Author.Tests.{le-leb, lt-leb}
 use lib.ListN.{length}
 use lib.Seq.{sets}
 use lib.IntN.{ℤ}
@@ -12,6 +12,9 @@ use Rattle.refusal.specs.declared.Fault.{Fault}
 use Rattle.refusal.specs.Numbers.{as_answer}
 use Rattle.answer_run.specs.Answers.{Told, told, TellEnsures, Answered}
 use Rattle.answer_run.specs.Turns.{told_of, told_by}
+
+pub too_short : (room : ℕ) (t : Told) (before : List ℤ) → length before < room → Answered room t before 21 before
+too_short room t before h = let e = lt-leb room (length before) h in record { number = rw e refl; run = rw e refl }
 
 pub answered : (room : ℕ) (t : Told) (before : List ℤ) (n : ℕ) (after : List ℤ) → room ≤ length before → n ≡ t.number → after ≡ sets before 0 t.entries → Answered room t before n after
 answered room t before n after h p q = let e = le-leb room (length before) h in record { number = rw e p; run = rw e q }

@@ -1,3 +1,4 @@
+pub mod EntryLaws
 pub mod AnswerLaws
 pub mod BareLaws
 pub mod Witnesses

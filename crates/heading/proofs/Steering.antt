@@ -9,6 +9,8 @@ use lib.Dec.{leb, ltb→lt, lit≤}
 use native.Mathlib.Nat as NatL
 use lib.IntN.{ℤ, pos, negsuc, neg_ℤ, nat_abs, ◌+ℤ◌, ◌-ℤ◌, ◌*ℤ◌, +ℤ_idl}
 use lib.Signed.{◌≤ℤ◌, lt_z}
+use mir.Syntax.{w64}
+use mir.Val.{SFits}
 use Rattle.std.proofs.lemmas.Bool.{and_parts}
 use Rattle.exact.proofs.Order.{of_true, of_false, pos-≤, ≤-pos}
 use Rattle.exact.specs.Size.{Within}
@@ -19,6 +21,7 @@ use Rattle.exact.proofs.Polynomial.{var, ◌⊕◌, ◌⊗◌}
 use Rattle.plane.specs.Vector.{plus, BothModerate, Scalable}
 use Rattle.plane.specs.declared.Vec2.{Vec2}
 use Rattle.plane.specs.Length.{heading_length, Near}
+use Rattle.job.specs.Allowed.{between}
 use Rattle.job.specs.Curves.{radius_allowed}
 use Rattle.heading.specs.Turn.{turned_by, heading_after, move_of, Tangent}
 use Rattle.heading.specs.PathTurn.{Steerable, Movable}
@@ -118,6 +121,22 @@ module _ {g h : Vec2} {s : ℤ} (t : Movable g h s) where
     y = within_more (lit≤ tt) (within_size_of move_bounds ((var 1 ⊕ var 3) ⊗ var 4));
     divisor = record { positive = pos-≤ (lit≤ tt) };
   }
+
+-- the opposite of a natural that fits, fits
+pub minus_fits : (n : ℕ) → SFits w64 (pos n) → SFits w64 (pos 0 -ℤ pos n)
+minus_fits zero f = f
+minus_fits (suc n) f = subst (SFits w64) (sym (+ℤ_idl (negsuc n))) (record { sfits = omega (arith, f.sfits) })
+
+-- the test of a signed radius, by its size
+pub straight_allowed : (r : ℤ) → nat_abs r ≡ 0 → true ≡ radius_allowed r
+straight_allowed (pos zero) e = refl
+straight_allowed (pos (suc a)) e = absurd (omega arith)
+straight_allowed (negsuc a) e = absurd (omega arith)
+
+pub arc_allowed : (r : ℤ) → (nat_abs r ≡ 0 → ⊥) → between 20000 1000000 (nat_abs r) ≡ radius_allowed r
+arc_allowed (pos zero) f = absurd (f refl)
+arc_allowed (pos (suc a)) f = refl
+arc_allowed (negsuc a) f = refl
 
 -- a move is no longer than its step, by coordinate
 pub move_within : (g h : Vec2) (s : ℕ) → Movable g h (pos s) → Within s (move_of g h (pos s)).x × Within s (move_of g h (pos s)).y
