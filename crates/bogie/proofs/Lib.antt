@@ -7,4 +7,5 @@ pub mod FittingLaws
 pub mod RefusalLaws
 pub mod ListLaws
 pub mod BestLaws
+pub mod Tied
 pub mod Witnesses
