@@ -1,5 +1,5 @@
 -- No point of the rig crosses a station that lies farther off than the rig spreads.
-use Prim.Native.Nat.{ℕ, suc, zero-le, ◌+◌, ◌<◌}
+use Prim.Native.Nat.{ℕ, zero, suc, zero-le, ◌+◌, ◌<◌}
 use mathlib.Core.Path.{◌≡◌, refl, subst}
 use mathlib.Core.Bool.{Bool, true, false, not, ◌&&◌, ◌||◌}
 use mathlib.Core.List.{List, [], ◌∷◌}
@@ -8,7 +8,7 @@ use native.Mathlib.Omega.{arith}
 use borrow.Author.Count.{below_more}
 use borrow.Author.Tests.{le-ltb}
 use lib.Dec.{lit≤}
-use lib.ListN.{length, get_or}
+use lib.ListN.{take, length, get_or}
 use lib.IntN.{ℤ, pos, negsuc, nat_abs, neg_ℤ, ◌+ℤ◌, ◌-ℤ◌, ◌*ℤ◌}
 use lib.Signed.{le_z, lt_z, ◌≤ℤ◌, ≤ℤ_refl}
 use Rattle.exact.specs.Size.{Within}
@@ -25,7 +25,7 @@ use Rattle.walk.specs.Rig.{zero_vector}
 use Rattle.reaches.specs.declared.far.Spread.{Spread}
 use Rattle.reaches.specs.Crossing.{ahead_of, crosses, some_crosses, greater}
 use Rattle.reaches.specs.Inner.{SizedPoint}
-use Rattle.reaches.specs.Far.{apart, far_off, misses, Farthest, SpreadOf}
+use Rattle.reaches.specs.Far.{apart, far_off, misses, Near, Farthest, SpreadOf}
 use Rattle.reaches.proofs.LeastGreatest.{sorted, greater_most}
 
 -- |x·g| is at most |x|·N where g is at most N in size
@@ -143,6 +143,17 @@ unfolding some_crosses
 none_of s [] news h = refl
 none_of s (old ∷ olds) [] h = refl
 none_of s (old ∷ olds) (new ∷ news) h = rw (h 0 (omega arith)) (none_of s olds news (λ p l. h (suc p) (omega arith)))
+
+-- nor by any of the first n
+none_of_first : (s : Station) (n : ℕ) (olds news : List Vec2) → ((p : ℕ) → p < n → crosses s (get_or olds p zero_vector) (get_or news p zero_vector) ≡ false) → some_crosses s (take n olds) (take n news) ≡ false
+unfolding some_crosses
+none_of_first s zero olds news h = refl
+none_of_first s (suc n) [] news h = refl
+none_of_first s (suc n) (old ∷ olds) [] h = refl
+none_of_first s (suc n) (old ∷ olds) (new ∷ news) h = rw (h 0 (omega arith)) (none_of_first s n olds news (λ p l. h (suc p) (omega arith)))
+
+pub far_none : (s : Station) → SoundStation s → (from : Vec2) (n : ℕ) (olds news : List Vec2) (r : ℤ) → Near from olds n r → Near from news n r → far_off s from r ≡ true → some_crosses s (take n olds) (take n news) ≡ false
+far_none s k from n olds news r u w far = none_of_first s n olds news (λ p l. far_move s k from r far (get_or olds p zero_vector) (get_or news p zero_vector) (u.each p l) (w.each p l))
 
 pub missed : (s : Station) → SoundStation s → (w : Spread) (olds news : List Vec2) → SpreadOf w olds news → misses w s ≡ true → some_crosses s olds news ≡ false
 missed s k w olds news u far = none_of s olds news (λ p l. far_move s k w.from w.near far (get_or olds p zero_vector) (get_or news p zero_vector) (u.old.each p l) (u.new.each p l))
