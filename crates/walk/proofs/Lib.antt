@@ -1,3 +1,4 @@
+pub mod SizeTests
 pub mod PathTests
 pub mod VehicleTests
 pub mod VectorTests

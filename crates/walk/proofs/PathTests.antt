@@ -53,6 +53,11 @@ module _ (p : PathRuns) where
   unfolding path_sound
   path_none = refl
 
+  -- one station more
+  pub path_next : (i : ℕ) → path_sound i p ≡ true → station_sound (station_at p i) ≡ true → path_sound (i + 1) p ≡ true
+  unfolding path_sound
+  path_next i e s = rw add-one (and_from _ _ e s)
+
   pub all_sound : (n : ℕ) → ((i : ℕ) → i < n → station_sound (station_at p i) ≡ true) → path_sound n p ≡ true
   unfolding path_sound
   all_sound zero h = refl
@@ -99,6 +104,14 @@ module _ (p : PathRuns) where
   -- each station of a sound path is sound
   pub path_station : (n i : ℕ) → path_sound n p ≡ true → i < n → SoundStation (station_at p i)
   path_station n i e h = sound_station (station_at p i) (path_at n i e h)
+
+  -- one station that is not sound makes the path unsound
+  pub path_unsound : (n i : ℕ) → i < n → station_sound (station_at p i) ≡ false → path_sound n p ≡ false
+  path_unsound n i h e = by (path_sound n p) refl
+    where
+      by : (t : Bool) → path_sound n p ≡ t → t ≡ false
+      by true k = sym (path_at n i k h) ∙ e
+      by false k = refl
 
   -- a station below those that the runs have room for
   pub station_lent : (n i : ℕ) → room_for n p ≡ true → i < n → StationLent i p

@@ -4,10 +4,11 @@ use mathlib.Core.Path.{◌≡◌, refl, sym, ◌∙◌, ap}
 use mathlib.Core.Bool.{true, ◌&&◌}
 use mathlib.Core.List.{List, [], ◌∷◌}
 use native.Mathlib.Omega.{arith}
+use native.Mathlib.Numerals.{add-one}
 use borrow.Author.Tests.{eqb-true}
 use lib.Dec.{eqb}
 use lib.ListN.{length, drop, get_or, drop_of_length-le}
-use lib.Seq.{drop-drop}
+use lib.Seq.{drop-cons, drop-drop}
 use lib.IntN.{ℤ, pos, negsuc, nat_abs, ◌*ℤ◌}
 use Rattle.std.specs.List.{list_all, enumerate_from}
 use Rattle.std.proofs.lemmas.Bool.{and_parts}
@@ -36,6 +37,15 @@ first_and_rest (u ∷ us) d ds = refl
 pub no_units : vectors_sound [] [] ≡ true
 unfolding vectors_sound
 no_units = refl
+
+module _ (us : List VehicleUnit) (ds : List Vec2) where
+  pub vectors_next : (i : ℕ) → i < length ds
+      → vectors_sound (drop i us) (drop i ds) ≡ (vector_sound (drop i us) (get_or ds i zero_vector) && vectors_sound (drop (i + 1) us) (drop (i + 1) ds))
+  vectors_next i h =
+      rw (← drop-drop 1 i us, drop-cons ds i zero_vector h, add-one) (first_and_rest (drop i us) (get_or ds i zero_vector) (drop (suc i) ds))
+
+  pub vectors_end : (i : ℕ) → length us ≤ i → length ds ≤ i → vectors_sound (drop i us) (drop i ds) ≡ true
+  vectors_end i g h = rw (drop_of_length-le us {i = i} g, drop_of_length-le ds {i = i} h) no_units
 
 -- the vectors from place k on, each with its place
 vectors_from : (us : List VehicleUnit) (k : ℕ) (ds : List Vec2) → length us ≤ k + length ds
