@@ -25,14 +25,14 @@ use Rattle.ranking.specs.Ranking.{Listed, refused, ranked, listed_of}
 use Rattle.bogie.specs.declared.Rail.{Rail}
 use Rattle.bogie.specs.Settings.{setting_at, vehicle_set}
 use Rattle.bogie.specs.Fitting.{with_run, fitting, run_entered}
-use Rattle.bogie.specs.Walks.{over_at, runs_after, LastUnit, Walkable}
+use Rattle.bogie.specs.Walks.{over_at, runs_after, WalkEnsures, LastUnit, Walkable}
 use Rattle.bogie.proofs.EnterLaws.{run_first}
 use Rattle.bogie.proofs.FaultsKept.{kept_vehicle}
 use Rattle.bogie.proofs.Forgotten.{walk_forgotten}
 use Rattle.bogie.proofs.RailLaws.{in_limits, wheelbase_at}
 
 module _ (asked : ℕ) (path : PathRuns) (v : Vehicle) (b : Rail) (r : Reaches) where
-  after_lengths : (i : ℕ) → SameLengths (runs_after asked path v b r i) r
+  pub after_lengths : (i : ℕ) → SameLengths (runs_after asked path v b r i) r
   after_lengths zero = record { left = refl; right = refl; marks = refl }
   after_lengths (suc i) =
       let s = drawn_start (vehicle_set v (setting_at b i)) (station_at path 0).heading in
@@ -49,7 +49,7 @@ module _ (asked : ℕ) (path : PathRuns) (v : Vehicle) (b : Rail) (r : Reaches) 
     walked : (u : Vehicle) → walk_over asked path u runs ≡ walk_over asked path u r
     walked u = ap (λ (x : Reaches). walk_to_end asked path (drawn_start u (station_at path 0).heading) x) (ap (cleared asked) so ∙ after_cleared i)
 
-    runs_lengths : SameLengths runs r
+    pub runs_lengths : SameLengths runs r
     runs_lengths = subst (λ (x : Reaches). SameLengths x r) (sym so) (after_lengths i)
 
     module _ (u : Vehicle) (set : u ≡ vehicle_set v (setting_at b i)) where
@@ -78,6 +78,14 @@ module _ (asked : ℕ) (path : PathRuns) (v : Vehicle) (b : Rail) (r : Reaches) 
             rw (add-one i)
             (f ∙ ap (run_entered (setting_at b i) a) e ∙ run_first (setting_at b i) (fitting (over_at asked path v r) (setting_at b) i) a
             ∙ ap (λ (x : Ran). listed_of (ranked (with_run (setting_at b i) x (fitting (over_at asked path v r) (setting_at b) i)))) run)
+
+  -- after the last setting
+  pub all_walked : (i : ℕ) (l : Listed) (runs : Reaches) → i ≡ b.number → runs ≡ runs_after asked path v b r i → l ≡ listed_of (ranked (fitting (over_at asked path v r) (setting_at b) i)) → WalkEnsures asked path v b r l runs
+  all_walked i l runs e p q =
+      record {
+        listed = q ∙ ap (λ (n : ℕ). listed_of (ranked (fitting (over_at asked path v r) (setting_at b) n))) e;
+        runs = p ∙ ap (runs_after asked path v b r) e;
+      }
 
 -- none yet
 pub none_listed : (run : ℕ → Ran) (at : ℕ → ℕ) → refused 30 ≡ listed_of (ranked (fitting run at 0))

@@ -18,8 +18,9 @@ use Rattle.walk.proofs.SoundKept.{start_sound}
 use Rattle.reaches.specs.Cells.{Reaches, cleared_cell, cleared}
 use Rattle.reaches.proofs.CellLaws.{SameLengths, lengths_of_lem}
 use Rattle.stations.specs.Placing.{call_of}
+use Rattle.run.specs.Ran.{Ran}
 use Rattle.run.specs.Walking.{Course, walk_to_end, steps_left, course_of, Going}
-use Rattle.run.specs.Run.{Runnable, Tellable}
+use Rattle.run.specs.Run.{walk_over, ran_over, Runnable, Tellable, OverEnsures}
 use Rattle.run.proofs.WalkingLaws.{same_call}
 use Rattle.run.proofs.CourseLaws.{course_vehicle, ends_on_path, course_lengths}
 
@@ -59,3 +60,9 @@ module _ (asked : ℕ) (path : PathRuns) (v : Vehicle) (r : Reaches) (y : Runnab
             lent = lent_still after (record { left = l.left ∙ m.left; right = l.right ∙ m.right; marks = l.marks ∙ m.marks });
             station = end_on_path;
           }
+
+      pub told_so : (answer : Ran) → answer ≡ ran_over asked path (course_of end after) → OverEnsures asked path v r answer after
+      told_so answer e =
+          let f : Drawn → Reaches → Course = λ s x. walk_to_end asked path s x in
+          let whole : course_of end after ≡ walk_over asked path v r = walked ∙ ap (λ (s : Drawn). f s runs) placed ∙ ap (f (drawn_start v (station_at path 0).heading)) clear in
+          record { answered = e ∙ ap (ran_over asked path) whole; reaches = ap (λ (c : Course). c.runs) whole }

@@ -6,6 +6,7 @@ use native.Mathlib.Omega.{arith}
 use lib.Dec.{leb}
 use Rattle.number.specs.Read.{pick}
 use Rattle.job.specs.declared.Vehicle.{Vehicle}
+use Rattle.job.specs.Faults.{first_of}
 use Rattle.walk.specs.Drawn.{Drawn, Call}
 use Rattle.walk.specs.Tests.{path_lent, reaches_lent, lent, path_sound, vehicle_sound, record_sound, at_last}
 use Rattle.walk.specs.Rig.{Stepped, turning_of, after_turning, turned_down, draw_step}
@@ -61,6 +62,15 @@ module _ (asked : ℕ) (s : Drawn) where
 
 -- placing: the call's tests, then the vehicle's
 module _ (v : Vehicle) (c : Call) where
+  both_tests : (a b : Bool) (own : ℕ) → pick a (pick b own 26) 21 ≡ first_of (pick a (pick b 0 26) 21) own
+  both_tests false b own = refl
+  both_tests true false own = refl
+  both_tests true true own = refl
+
+  pub place_refusal_lem : place_refusal v c ≡ first_of (call_refusal c) (vehicle_refusal v)
+  unfolding place_refusal call_refusal vehicle_refusal
+  place_refusal_lem = both_tests (lent c) (path_sound c.asked c.path) (pick (vehicle_sound v) 0 27)
+
   by_call : (a b : Bool) (own n : ℕ) → n ≡ pick a (pick b 0 26) 21 → (n ≡ 0 → ⊥) → pick a (pick b own 26) 21 ≡ n
   by_call false b own n e h = sym e
   by_call true false own n e h = sym e
@@ -126,3 +136,13 @@ module _ (s : Drawn) (c : Call) where
   pub record_down : 0 ≡ call_refusal c → (n : ℕ) → n ≡ record_refusal c.asked s → (n ≡ 0 → ⊥) → draw_step s c ≡ turned_down s n
   unfolding draw_step record_refusal
   record_down z n e h = let p = call_passed c z in rw (p.lent, p.path) (record_down_by (record_sound c.asked s) (at_last c.asked s) n _ e h)
+
+  refused_by : (a b r l : Bool) (n : ℕ) (x : Stepped) → first_of (pick a (pick b 0 26) 21) (pick r (pick l 25 0) 27) ≡ n → (n ≡ 0 → ⊥)
+      → pick a (pick b (pick r (pick l (turned_down s 25) x) (turned_down s 27)) (turned_down s 26)) (turned_down s 21) ≡ turned_down s n
+  refused_by false b r l n x e h = rw (sym e) refl
+  refused_by true false r l n x e h = rw (sym e) refl
+  refused_by true true r l n x e h = record_down_by r l n x (sym e) h
+
+  pub refused_draw : (n : ℕ) → first_of (call_refusal c) (record_refusal c.asked s) ≡ n → (n ≡ 0 → ⊥) → draw_step s c ≡ turned_down s n
+  unfolding draw_step call_refusal record_refusal
+  refused_draw n e h = refused_by (lent c) (path_sound c.asked c.path) (record_sound c.asked s) (at_last c.asked s) n _ e h

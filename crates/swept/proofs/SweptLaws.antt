@@ -58,7 +58,7 @@ ran_answered s (R.finished f) h = h
 ran_answered s (R.stopped n u k) h = h
 ran_answered s (R.refused n) h = absurd h
 
-answered_into : (s : List ℕ) (a : Swept) → AnsweredSo s a → IntoSo s a
+pub answered_into : (s : List ℕ) (a : Swept) → AnsweredSo s a → IntoSo s a
 answered_into s (S.finished f) h = h
 answered_into s (S.stopped n u k) h = h
 answered_into s (S.refused n p) h = inl h
