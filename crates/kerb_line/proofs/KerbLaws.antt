@@ -3,6 +3,7 @@ use Prim.Native.Nat.{ℕ, zero, suc, ◌+◌, ◌≤◌, ◌<◌}
 use mathlib.Core.Path.{◌≡◌, refl, sym, ◌∙◌, ap, subst}
 use mathlib.Core.Bool.{Bool, true, false, ◌&&◌}
 use native.Mathlib.Omega.{arith}
+use native.Mathlib.Numerals.{add-one}
 use native.Mathlib.Decide.{dec_lt}
 use borrow.Author.Tests.{leb-true}
 use lib.Dec.{leb, lit≤}
@@ -12,7 +13,7 @@ use lib.IntN.{ℤ, pos, nat_abs}
 use Rattle.std.specs.List.{list_all, zip}
 use Rattle.exact.proofs.Sizes.{within_more}
 use Rattle.number.specs.Field.{size_at_most}
-use Rattle.std.proofs.lemmas.Bool.{and_parts}
+use Rattle.std.proofs.lemmas.Bool.{and_parts, and_from}
 use Rattle.job.specs.Allowed.{between}
 use Rattle.touching.specs.Touch.{OnMap}
 use Rattle.kerb_line.specs.Kerb.{KerbRuns, vertex_at, kerb_lent, vertex_sound, kerb_sound}
@@ -44,6 +45,10 @@ module _ (k : KerbRuns) where
   pub sound_none : kerb_sound 0 k ≡ true
   unfolding kerb_sound
   sound_none = refl
+
+  pub sound_next : (i : ℕ) → kerb_sound i k ≡ true → vertex_sound (vertex_at k i) ≡ true → kerb_sound (i + 1) k ≡ true
+  unfolding kerb_sound
+  sound_next i e s = rw add-one (and_from _ _ e s)
 
   -- one vertex more decides with those before it
   sound_more : (a : ℕ) → kerb_sound (suc a) k ≡ (kerb_sound a k && vertex_sound (vertex_at k a))
@@ -83,6 +88,13 @@ module _ (k : KerbRuns) where
       last_or : Dec (i < n) → i < suc n → (i < n → vertex_sound (vertex_at k i) ≡ true) → vertex_sound (vertex_at k n) ≡ true → vertex_sound (vertex_at k i) ≡ true
       last_or (yes l) h below last = below l
       last_or (no f) h below last = let same : n ≡ i = omega arith in subst (λ (j : ℕ). vertex_sound (vertex_at k j) ≡ true) same last
+
+  pub unsound : (n i : ℕ) → i < n → vertex_sound (vertex_at k i) ≡ false → kerb_sound n k ≡ false
+  unsound n i h e = by (kerb_sound n k) refl
+    where
+      by : (t : Bool) → kerb_sound n k ≡ t → t ≡ false
+      by true q = sym (sound_at n i q h) ∙ e
+      by false q = refl
 
   -- each vertex of a sound kerb lies near the map
   pub on_map : (n i : ℕ) → kerb_sound n k ≡ true → i < n → OnMap (vertex_at k i)

@@ -31,7 +31,7 @@ use Rattle.stations.proofs.Entering.{rig_at, points_fit, taken_count, taken_as}
 use Rattle.stations.proofs.RigLaws.{sound_keeping}
 use Rattle.run.specs.declared.RunRefusal.TheVariants.{Stopped}
 use Rattle.run.specs.Stops.{stop_at}
-use Rattle.run.specs.Walking.{steps_left}
+use Rattle.run.specs.Walking.{steps_left, Going}
 use Rattle.run.proofs.WalkingLaws.{is_open, made_step_lem}
 use Rattle.run.proofs.CourseLaws.{vehicle_stays}
 use Rattle.touching.specs.Touch.{OnMap}
@@ -73,6 +73,23 @@ module _ (asked : ℕ) (path : PathRuns) (n : ℕ) (kerb : KerbRuns) where
 
   abbrev ahead_of : Drawn → KerbReport
   ahead_of s = look_ahead (steps_left asked s) asked path (vertices n kerb) s
+
+  pub ahead_going : (s : Drawn) → Ahead s asked path n kerb → Going s c
+  ahead_going s a = record { lent = over_lent asked path a.path; path = a.stations; rig = a.rig }
+
+  -- a made step leaves a walk that is looked at likewise
+  module _ (w w' : Walk) (a : Ahead (view w) asked path n kerb) (h : w.station + 1 < asked) (e : AdvanceEnsures w (position w.station) (position (w.station + 1)) (record { answer = made; walk = w' })) where
+    pub still_ahead : Ahead (view w') asked path n kerb
+    still_ahead =
+        let o = is_open (view w) c (ahead_going (view w) a) h in
+        let d : record { answer = made; state = view w' } ≡ draw_step (view w) c = e.stepped ∙ sym (step_open (view w) c o) in
+        record {
+          path = a.path;
+          kerb = a.kerb;
+          stations = a.stations;
+          vertices = a.vertices;
+          rig = subst (λ (s : Drawn). record_sound asked s ≡ true) (sym (ap (λ (t : Stepped). t.state) d)) (made_step_lem (view w) c o (sym (ap (λ (t : Stepped). t.answer) d))).0;
+        }
 
   -- a walk that is looked at, and how many points it has
   pub record Here (w : Walk) (m : ℕ) : Type 0 where
@@ -116,7 +133,7 @@ module _ (asked : ℕ) (path : PathRuns) (n : ℕ) (kerb : KerbRuns) where
       first : take m ps ≡ points_at (view w) c
       first = taken_as w.vehicle on_path.rig.rig.most w.d (position w.station) a.count e
 
-      on_map : (k : ℕ) → OnMap (get_or (take m ps) k zero_vector)
+      pub on_map : (k : ℕ) → OnMap (get_or (take m ps) k zero_vector)
       on_map k = rw first (let p = points_sized on_path.rig k in record { x = p.x; y = p.y })
 
   -- the points of two such walks can be looked at as they move
@@ -136,7 +153,7 @@ module _ (asked : ℕ) (path : PathRuns) (n : ℕ) (kerb : KerbRuns) where
     inside = omega arith
 
     is_on : Open (view w) c
-    is_on = is_open (view w) c (record { lent = over_lent asked path a.ahead.path; path = a.ahead.stations; rig = a.ahead.rig }) inside
+    is_on = is_open (view w) c (ahead_going (view w) a.ahead) inside
 
     abbrev later : KerbReport
     later = look_ahead (asked - (w.station + 2)) asked path (vertices n kerb) (draw_step (view w) c).state
@@ -168,19 +185,13 @@ module _ (asked : ℕ) (path : PathRuns) (n : ℕ) (kerb : KerbRuns) where
       pub one_on : w'.station ≡ k
       one_on = ap (λ (s : Drawn). s.station) drawn_state ∙ (made_step_lem (view w) c is_on (sym drawn_made)).1 ∙ led
 
-      same_vehicle : w'.vehicle ≡ w.vehicle
+      pub same_vehicle : w'.vehicle ≡ w.vehicle
       same_vehicle = ap (λ (s : Drawn). s.vehicle) drawn_state ∙ vehicle_stays (view w) c
 
       pub still_here : Here w' m
       still_here =
           record {
-            ahead = record {
-              path = a.ahead.path;
-              kerb = a.ahead.kerb;
-              stations = a.ahead.stations;
-              vertices = a.ahead.vertices;
-              rig = subst (λ (s : Drawn). record_sound asked s ≡ true) (sym drawn_state) (made_step_lem (view w) c is_on (sym drawn_made)).0;
-            };
+            ahead = still_ahead w w' a.ahead inside e;
             places = ap (λ (v : Vehicle). length v.units) same_vehicle ∙ a.places;
             count = a.count ∙ sym (ap point_count same_vehicle);
           }

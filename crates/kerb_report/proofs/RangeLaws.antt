@@ -154,3 +154,31 @@ module _ (s : Drawn) (asked : ℕ) (path : PathRuns) (n : ℕ) (kerb : KerbRuns)
   pub looked : Ahead s asked path n kerb → look_ahead (steps_left asked s) asked path (vertices n kerb) s ≡ report_of s asked path n kerb
   unfolding report_of
   looked a = rw (a.path, a.kerb, a.stations, a.vertices, a.rig) refl
+
+  -- the report, test by test
+  pub path_short : path_lent asked path ≡ false → R.refused 21 ≡ report_of s asked path n kerb
+  unfolding report_of
+  path_short e = rw e refl
+
+  module _ (a : path_lent asked path ≡ true) where
+    pub kerb_short_lem : kerb_lent n kerb ≡ false → R.refused 21 ≡ report_of s asked path n kerb
+    unfolding report_of
+    kerb_short_lem e = rw (a, e) refl
+
+    module _ (b : kerb_lent n kerb ≡ true) where
+      pub path_unsound : path_sound asked path ≡ false → R.refused 26 ≡ report_of s asked path n kerb
+      unfolding report_of
+      path_unsound e = rw (a, b, e) refl
+
+      module _ (c : path_sound asked path ≡ true) where
+        pub kerb_unsound_lem : kerb_sound n kerb ≡ false → R.refused 26 ≡ report_of s asked path n kerb
+        unfolding report_of
+        kerb_unsound_lem e = rw (a, b, c, e) refl
+
+        module _ (d : kerb_sound n kerb ≡ true) where
+          pub rig_unsound : record_sound asked s ≡ false → R.refused 27 ≡ report_of s asked path n kerb
+          unfolding report_of
+          rig_unsound e = rw (a, b, c, d, e) refl
+
+          pub all_passed : record_sound asked s ≡ true → look_ahead (steps_left asked s) asked path (vertices n kerb) s ≡ report_of s asked path n kerb
+          all_passed e = looked (record { path = a; kerb = b; stations = c; vertices = d; rig = e })
