@@ -1,2 +1,4 @@
+pub mod CallLaws
+pub mod SettingsLaws
 pub mod KerbLaws
 pub mod ClaimLaws
