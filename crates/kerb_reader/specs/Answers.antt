@@ -2,6 +2,8 @@
 use Rattle.std.specs.Prelude.{ℕ, Result, Ok, Err}
 use Rattle.refusal.specs.Numbers.{number_of}
 use Rattle.refusal.specs.declared.Refusal.{Refusal}
+use Rattle.told.specs.declared.Numbered.{Numbered}
+use Rattle.told.specs.declared.Numbered.TheVariants as T
 use Rattle.number.specs.Read.{Read, got, refused as refused_read}
 use Rattle.kerb_reader.specs.declared.Survey.{Survey}
 use Rattle.kerb_reader.specs.declared.KerbRefusal.{KerbRefusal}
@@ -18,7 +20,21 @@ pub data KerbRead : Type 0 where
   refused_at : ℕ → ℕ → KerbRead
   refused : ℕ → KerbRead
 
+-- a refusal by the number that tells it; want of room is 21
+abbrev pub told_refusal : KerbRefusal → Numbered
+told_refusal (Field r) = T.At (number_of r.fault) r.place
+told_refusal NoRoom = T.Alone 21
+
+-- what a refusal says that is told
+abbrev pub as_refused : Numbered → KerbRead
+as_refused (T.At n p) = refused_at n p
+as_refused (T.Alone n) = refused n
+
+-- what an answer says whose refusal is told so
+abbrev pub kerb_by : {R : Type 0} → (R → Numbered) → Result ℕ R → KerbRead
+kerb_by told (Ok n) = vertices n
+kerb_by told (Err r) = as_refused (told r)
+
+-- the same, of the program's answer
 abbrev pub as_kerb : Result ℕ KerbRefusal → KerbRead
-as_kerb (Ok n) = vertices n
-as_kerb (Err (Field r)) = refused_at (number_of r.fault) r.place
-as_kerb (Err NoRoom) = refused 21
+as_kerb = kerb_by told_refusal

@@ -8,13 +8,14 @@ mod writing;
 ghost use Rattle.std.specs.Prelude.{◌≡◌, length};
 ghost use Rattle.kerb_reader.specs.Geometry.{read_geometry};
 ghost use Rattle.kerb_reader.specs.Ticks.{KerbEnsures};
-ghost use Rattle.kerb_reader.specs.Answers.{as_geometry};
+ghost use Rattle.kerb_reader.specs.Answers.{as_geometry, told_refusal};
 ghost use Rattle.kerb_reader.specs.Claims.{KerbWithinLimits, FirstBytes};
 ghost use Rattle.kerb_reader.specs.Worked.{WorkedGeometries};
 ghost use Rattle.kerb_reader.specs.declared.KerbRefusal.TheVariants.{Field};
 
 use metres::Vertex;
 use refusal::{Fault, Refusal};
+use told::{Numbered, Tell};
 
 // What was surveyed: a point with its coordinates, or a line with its first vertex and its number of vertices.
 #[derive(Clone, Copy)]
@@ -44,6 +45,17 @@ impl From<Refusal> for KerbRefusal {
 
     fn from(r: Refusal) -> KerbRefusal {
         KerbRefusal::Field(r)
+    }
+}
+
+impl Tell<Numbered> for KerbRefusal {
+    ghost told = { told_refusal };
+
+    fn tell(self) -> Numbered {
+        match self {
+            KerbRefusal::Field(refused) => Numbered::At(refused.fault.number(), refused.place),
+            KerbRefusal::NoRoom => Numbered::Alone(Fault::RunTooShort.number()),
+        }
     }
 }
 

@@ -4,7 +4,7 @@
 ghost use Rattle.std.specs.Prelude.{◌≡◌};
 ghost use Rattle.path.specs.Lent.{room_runs, SameLoans as SamePathLoans};
 ghost use Rattle.reaches.specs.Lent.{room_reaches, SameLoans};
-ghost use Rattle.offered.specs.Answers.{as_offered};
+ghost use Rattle.offered.specs.Answers.{told_refusal, as_offered};
 ghost use Rattle.offered.specs.Offered.{offered_of};
 ghost use Rattle.offered.specs.Ranges.{ListIntoEnsures};
 ghost use Rattle.offered.specs.Claims.{FirstBytes, RecordFirst};
@@ -14,6 +14,7 @@ use path::PathRoom;
 use ranking::Shortlist;
 use reaches::ReachRoom;
 use refusal::{Fault, Refusal};
+use told::{Numbered, Tell};
 
 // The record's refusal, with the byte where the field starts; or the list's, which names none.
 // Kept: the new form is no plainer: this is the error of a Result already, and its two kinds hold different values.
@@ -21,6 +22,17 @@ use refusal::{Fault, Refusal};
 pub enum OfferRefusal {
     Record(Refusal),
     List(Fault),
+}
+
+impl Tell<Numbered> for OfferRefusal {
+    ghost told = { told_refusal };
+
+    fn tell(self) -> Numbered {
+        match self {
+            OfferRefusal::Record(refused) => Numbered::At(refused.fault.number(), refused.place),
+            OfferRefusal::List(fault) => Numbered::Alone(fault.number()),
+        }
+    }
 }
 
 // The job is read and walked at each setting on seven lent runs. A refused record writes nothing, and neither does a list refused before any walk.

@@ -5,7 +5,7 @@ ghost use Rattle.std.specs.Prelude.{◌≡◌, Err};
 ghost use Rattle.path.specs.Lent.{room_runs, SameLoans as SamePathLoans};
 ghost use Rattle.reaches.specs.Lent.{room_reaches, SameLoans};
 ghost use Rattle.run.specs.Ran.{as_ran};
-ghost use Rattle.swept.specs.Answers.{as_swept};
+ghost use Rattle.swept.specs.Answers.{told_refusal, as_swept};
 ghost use Rattle.swept.specs.Swept.{swept_run};
 ghost use Rattle.swept.specs.Ranges.{IntoEnsures, SweptEnsures};
 ghost use Rattle.swept.specs.Claims.{FirstBytes};
@@ -14,6 +14,7 @@ use path::PathRoom;
 use reaches::ReachRoom;
 use refusal::Refusal;
 use run::{Finish, RunRefusal, Stop};
+use told::Tell;
 
 // Stopped at a step; or refused, with the byte where the field starts (0 beside 21).
 // Kept: the new form is no plainer: this is the error of a Result already, and either of the two is a refusal.
@@ -21,6 +22,29 @@ use run::{Finish, RunRefusal, Stop};
 pub enum SweepRefusal {
     Stopped(Stop),
     Refused(Refusal),
+}
+
+// The same by any number: with the unit and the step, or with the byte.
+// Kept: people are told a refusal by its number, and callers may tell one that no fault has.
+#[derive(Clone, Copy, PartialEq, Eq)]
+pub enum SweepTold {
+    Stopped(u8, usize, usize),
+    Refused(u8, usize),
+}
+
+impl Tell<SweepTold> for SweepRefusal {
+    ghost told = { told_refusal };
+
+    fn tell(self) -> SweepTold {
+        match self {
+            SweepRefusal::Stopped(stop) => {
+                SweepTold::Stopped(stop.fault.number(), stop.unit, stop.step)
+            }
+            SweepRefusal::Refused(refused) => {
+                SweepTold::Refused(refused.fault.number(), refused.place)
+            }
+        }
+    }
 }
 
 // What refused the run of an accepted job; 21 names no byte.
