@@ -3,9 +3,9 @@
 
 pub mod settings;
 
-ghost use Rattle.std.specs.Prelude.{◌≡◌, ◌≤◌, ◌++◌, ◌+◌, Err, length, take};
+ghost use Rattle.std.specs.Prelude.{◌≡◌, ◌≤◌, ◌++◌, ◌+◌, length, take};
 ghost use Rattle.text.specs.Decimal.{decimal, signed_decimal};
-ghost use Rattle.swept.specs.Answers.{as_swept};
+ghost use Rattle.swept.specs.Answers.{as_refused, swept_by};
 ghost use Rattle.answer_text.specs.Printed.{steps_line, place_line, widest_line, front_line, finished_lines, refused_line, stopped_line, printed};
 ghost use Rattle.answer_text.specs.Appending.{nothing, Line};
 ghost use Rattle.answer_text.specs.Answers.{TextIs, TextEnsures};
@@ -15,7 +15,8 @@ ghost use Rattle.answer_text.specs.Forms.{PrintedForms};
 use plane::Vec2;
 use reaches::Place;
 use run::Finish;
-use swept::SweepRefusal;
+use swept::SweepTold;
+use told::Tell;
 
 // The lines stand at the start of the array; zeros stand after them.
 // Kept: a rule of the project needs an array with its count: there is no heap, and the zeros are promised.
@@ -151,19 +152,19 @@ pub fn stopped_text(number: u8, unit: usize, step: usize) -> Text
         .put_words(b"\n")
 }
 
-// Why a job has no answer, as the line that is printed in its place.
-pub fn refusal_text(refusal: SweepRefusal) -> Text
-    ensures { TextIs (printed (as_swept (Err refusal))) result }
+// Why a job has no answer, as the line that is printed in its place; any numbers fit.
+pub fn refusal_text<R: Tell<SweepTold>>(refusal: R) -> Text
+    ensures { TextIs (printed (as_refused (R.told refusal))) result }
 {
-    match refusal {
-        SweepRefusal::Stopped(stop) => stopped_text(stop.fault.number(), stop.unit, stop.step),
-        SweepRefusal::Refused(refused) => refused_text(refused.fault.number(), refused.place),
+    match refusal.tell() {
+        SweepTold::Stopped(number, unit, step) => stopped_text(number, unit, step),
+        SweepTold::Refused(number, byte) => refused_text(number, byte),
     }
 }
 
 // Any answer's lines: the widest of them fit.
-pub fn text_of(s: Result<Finish, SweepRefusal>) -> Text
-    ensures { TextEnsures (as_swept s) result }
+pub fn text_of<R: Tell<SweepTold>>(s: Result<Finish, R>) -> Text
+    ensures { TextEnsures (swept_by R.told s) result }
 {
     match s {
         Ok(f) => finished_text(f),

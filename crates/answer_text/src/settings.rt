@@ -1,8 +1,7 @@
 // The settings that a job is offered, a line each, or why there are none.
 ghost use Rattle.std.specs.Prelude.{◌++◌};
-ghost use Rattle.refusal.specs.Numbers.{number_of};
 ghost use Rattle.ranking.specs.Ranking.{as_list};
-ghost use Rattle.offered.specs.Answers.{as_offered};
+ghost use Rattle.offered.specs.Answers.{offered_by};
 ghost use Rattle.answer_text.specs.Answers.{TextIs};
 ghost use Rattle.answer_text.specs.Appending.{nothing, Line};
 ghost use Rattle.answer_text.specs.Inner.{Space};
@@ -10,9 +9,8 @@ ghost use Rattle.answer_text.specs.Settings.{setting_line, number_line, listed_l
 ghost use Rattle.answer_text.specs.Forms.{SettingForms};
 
 use crate::{Text, refused_text};
-use offered::OfferRefusal;
 use ranking::{Setting, Shortlist};
-use refusal::Fault;
+use told::{Numbered, Tell};
 
 impl Text {
     fn put_setting(self, s: Setting) -> Text
@@ -25,11 +23,12 @@ impl Text {
     }
 }
 
-fn fault_text(fault: Fault) -> Text
-    ensures { Line nothing (number_line (number_of fault)) 29 result }
+// Kept: the number, for the reason given at `refused_text`.
+fn numbered_text(number: u8) -> Text
+    ensures { Line nothing (number_line number) 29 result }
 {
     Text::empty()
-        .put_number(b"refused ", u64::from(fault.number()))
+        .put_number(b"refused ", u64::from(number))
         .put_words(b"\n")
 }
 
@@ -45,15 +44,15 @@ fn listed_text(l: Shortlist) -> Text
 }
 
 // Any list's lines, or any refusal's: the longest of them fit.
-pub fn settings_text(o: Result<Shortlist, OfferRefusal>) -> Text
-    ensures { TextIs (printed_settings (as_offered o)) result }
+pub fn settings_text<R: Tell<Numbered>>(o: Result<Shortlist, R>) -> Text
+    ensures { TextIs (printed_settings (offered_by R.told o)) result }
 {
     match o {
         Ok(l) => listed_text(l),
-        Err(OfferRefusal::List(fault)) => fault_text(fault),
-        Err(OfferRefusal::Record(refusal)) => {
-            refused_text(refusal.fault.number(), refusal.place)
-        }
+        Err(refusal) => match refusal.tell() {
+            Numbered::At(number, byte) => refused_text(number, byte),
+            Numbered::Alone(number) => numbered_text(number),
+        },
     }
 }
 

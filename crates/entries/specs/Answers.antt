@@ -1,10 +1,9 @@
 -- A job's answers as programs in C and Rust get them: a number, and the entries at the start of a lent run. A refusal writes none ("nothing is written", 01, "Why a job is turned down").
 use Rattle.std.specs.Prelude.{ℕ, List, [], ◌∷◌, ◌++◌, replicate, ℤ, pos, Option, None, Some}
-use Rattle.refusal.specs.Numbers.{number_of}
 use Rattle.reaches.specs.declared.Place.{Place}
 use Rattle.run.specs.declared.Finish.{Finish}
-use Rattle.swept.specs.declared.SweepRefusal.{SweepRefusal}
-use Rattle.swept.specs.declared.SweepRefusal.TheVariants as R
+use Rattle.swept.specs.declared.SweepTold.{SweepTold}
+use Rattle.swept.specs.declared.SweepTold.TheVariants as T
 use Rattle.swept.specs.Answers.{Swept}
 use Rattle.swept.specs.Answers as S
 use Rattle.answer_run.specs.Answers.{Told, told, at_byte, at_unit}
@@ -31,6 +30,6 @@ sweep_told (S.stopped n u k) = told (at_unit n u k) []
 sweep_told (S.refused n p) = told (at_byte n p) []
 
 -- why there is no answer, in one number: a stopped walk's with the unit and the step, a refused job's with the byte
-abbrev pub refusal_told : SweepRefusal → ℕ
-refusal_told (R.Stopped s) = at_unit (number_of s.fault) s.unit s.step
-refusal_told (R.Refused r) = at_byte (number_of r.fault) r.place
+abbrev pub refusal_told : SweepTold → ℕ
+refusal_told (T.Stopped n u k) = at_unit n u k
+refusal_told (T.Refused n p) = at_byte n p

@@ -1,8 +1,8 @@
 -- What the functions that are no entries require of their callers.
 use Rattle.std.specs.Prelude.{ℕ}
 use Rattle.run.specs.declared.Finish.{Finish}
-use Rattle.swept.specs.declared.SweepRefusal.{SweepRefusal}
-use Rattle.swept.specs.declared.SweepRefusal.TheVariants as R
+use Rattle.swept.specs.declared.SweepTold.{SweepTold}
+use Rattle.swept.specs.declared.SweepTold.TheVariants as T
 use Rattle.swept.specs.Answers.{Swept}
 use Rattle.swept.specs.Answers as S
 use Rattle.swept.specs.Ranges.{FinishedSo}
@@ -25,9 +25,9 @@ pub record AnswerFits (a : Swept) (n : ℕ) : Type 0 where
   pub ranges : SweptFits a
 
 -- why there is no answer
-abbrev pub RefusalFits : SweepRefusal → Type 0
-RefusalFits (R.Stopped s) = UnitFits s.unit s.step
-RefusalFits (R.Refused r) = ByteFits r.place
+abbrev pub RefusalFits : SweepTold → Type 0
+RefusalFits (T.Stopped n u k) = UnitFits u k
+RefusalFits (T.Refused n p) = ByteFits p
 
 abbrev pub OfferedFits : Offered → Type 0
 OfferedFits (O.listed l) = Unit {0}

@@ -6,13 +6,14 @@ pub mod lists;
 ghost use Rattle.std.specs.Prelude.{◌≡◌, length};
 ghost use Rattle.std.proofs.lemmas.List.Edits.{sets};
 ghost use Rattle.answer_run.specs.Answers.{TellEnsures};
-ghost use Rattle.swept.specs.Answers.{as_swept};
+ghost use Rattle.swept.specs.Answers.{swept_by};
 ghost use Rattle.entries.specs.Answers.{sweep_told, refusal_told, finish_entries};
 ghost use Rattle.entries.specs.Inner.{FinishFits, AnswerFits, RefusalFits};
 ghost use Rattle.entries.specs.Worked.{WorkedEntries};
 
 use run::Finish;
-use swept::SweepRefusal;
+use swept::SweepTold;
+use told::Tell;
 
 // A walk that came to its last station: zeros stand for a widest place where no station is complete.
 fn put_finish(run: &mut [i64], finish: Finish)
@@ -36,24 +37,20 @@ fn put_finish(run: &mut [i64], finish: Finish)
 }
 
 // A refusal in one number, with the unit and the step beside it, or with the byte.
-pub fn refusal_number(refusal: SweepRefusal) -> u32
-    requires { RefusalFits refusal }
-    ensures { result ≡ refusal_told refusal }
+pub fn refusal_number<R: Tell<SweepTold>>(refusal: R) -> u32
+    requires { RefusalFits (R.told refusal) }
+    ensures { result ≡ refusal_told (R.told refusal) }
 {
-    match refusal {
-        SweepRefusal::Stopped(stop) => {
-            answer_run::at_unit(stop.fault.number(), stop.unit, stop.step)
-        }
-        SweepRefusal::Refused(refused) => {
-            answer_run::at_byte(refused.fault.number(), refused.place)
-        }
+    match refusal.tell() {
+        SweepTold::Stopped(number, unit, step) => answer_run::at_unit(number, unit, step),
+        SweepTold::Refused(number, byte) => answer_run::at_byte(number, byte),
     }
 }
 
 // An answer's number; its entries are written where the walk is finished, and only there.
-pub fn tell_sweep(swept: Result<Finish, SweepRefusal>, answer: &mut [i64]) -> u32
-    requires { AnswerFits (as_swept swept) (length answer.old) }
-    ensures { TellEnsures (sweep_told (as_swept swept)) answer.old result answer.new }
+pub fn tell_sweep<R: Tell<SweepTold>>(swept: Result<Finish, R>, answer: &mut [i64]) -> u32
+    requires { AnswerFits (swept_by R.told swept) (length answer.old) }
+    ensures { TellEnsures (sweep_told (swept_by R.told swept)) answer.old result answer.new }
 {
     match swept {
         Ok(finish) => {

@@ -4,12 +4,12 @@ ghost use Rattle.std.proofs.lemmas.List.Edits.{sets};
 ghost use Rattle.answer_run.specs.Answers.{TellEnsures};
 ghost use Rattle.answer_run.specs.Inner.{Room};
 ghost use Rattle.ranking.specs.Ranking.{as_list};
-ghost use Rattle.offered.specs.Answers.{as_offered};
+ghost use Rattle.offered.specs.Answers.{offered_by};
 ghost use Rattle.entries.specs.Lists.{no_setting, three_entries, list_told, settings_told};
 ghost use Rattle.entries.specs.Inner.{OfferFits};
 
-use offered::OfferRefusal;
 use ranking::{Setting, Shortlist};
+use told::{Numbered, Tell};
 
 // What stands where no setting is listed.
 fn no_setting() -> Setting
@@ -51,18 +51,18 @@ fn put_listed(run: &mut [i64], listed: Shortlist)
 }
 
 // The list, or the number of what is refused, with the byte where that is the record.
-pub fn tell_offered(offered: Result<Shortlist, OfferRefusal>, answer: &mut [i64]) -> u32
-    requires { OfferFits (as_offered offered) (length answer.old) }
-    ensures { TellEnsures (settings_told (as_offered offered)) answer.old result answer.new }
+pub fn tell_offered<R: Tell<Numbered>>(offered: Result<Shortlist, R>, answer: &mut [i64]) -> u32
+    requires { OfferFits (offered_by R.told offered) (length answer.old) }
+    ensures { TellEnsures (settings_told (offered_by R.told offered)) answer.old result answer.new }
 {
     match offered {
         Ok(listed) => {
             put_listed(answer, listed);
             0
         }
-        Err(OfferRefusal::List(fault)) => u32::from(fault.number()),
-        Err(OfferRefusal::Record(refusal)) => {
-            answer_run::at_byte(refusal.fault.number(), refusal.place)
-        }
+        Err(refusal) => match refusal.tell() {
+            Numbered::At(number, byte) => answer_run::at_byte(number, byte),
+            Numbered::Alone(number) => u32::from(number),
+        },
     }
 }

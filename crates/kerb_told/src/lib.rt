@@ -6,13 +6,14 @@ pub mod touches;
 
 ghost use Rattle.answer_text.specs.Answers.{TextIs};
 ghost use Rattle.answer_text.specs.Appending.{nothing, Line};
-ghost use Rattle.kerbed.specs.Answers.{as_kerbed};
+ghost use Rattle.kerbed.specs.Answers.{kerbed_by};
 ghost use Rattle.kerb_told.specs.Printed.{touch_line, none_line, printed_kerb};
 ghost use Rattle.kerb_told.specs.Forms.{KerbForms};
 
 use answer_text::Text;
 use kerb_report::Touch;
-use swept::SweepRefusal;
+use swept::SweepTold;
+use told::Tell;
 
 fn touch_text(touch: Touch) -> Text
     ensures { Line nothing (touch_line touch.step touch.point) 48 result }
@@ -31,8 +32,8 @@ fn none_text() -> Text
 }
 
 // Any answer's line: the longest of them fits.
-pub fn kerb_text(k: Result<Option<Touch>, SweepRefusal>) -> Text
-    ensures { TextIs (printed_kerb (as_kerbed k)) result }
+pub fn kerb_text<R: Tell<SweepTold>>(k: Result<Option<Touch>, R>) -> Text
+    ensures { TextIs (printed_kerb (kerbed_by R.told k)) result }
 {
     match k {
         Ok(None) => none_text(),

@@ -1,18 +1,19 @@
 // A report as a number and the entries of a lent run.
 ghost use Rattle.std.specs.Prelude.{length};
 ghost use Rattle.answer_run.specs.Answers.{TellEnsures};
-ghost use Rattle.kerbed.specs.Answers.{as_kerbed};
+ghost use Rattle.kerbed.specs.Answers.{kerbed_by};
 ghost use Rattle.kerb_told.specs.Entries.{touch_told};
 ghost use Rattle.kerb_told.specs.Inner.{AnswerFits};
 ghost use Rattle.kerb_told.specs.Worked.{WorkedEntries};
 
 use kerb_report::Touch;
-use swept::SweepRefusal;
+use swept::SweepTold;
+use told::Tell;
 
 // A report's number; its entries are written where the walk is not refused, and only there.
-pub fn tell_touch(k: Result<Option<Touch>, SweepRefusal>, answer: &mut [i64]) -> u32
-    requires { AnswerFits (as_kerbed k) (length answer.old) }
-    ensures { TellEnsures (touch_told (as_kerbed k)) answer.old result answer.new }
+pub fn tell_touch<R: Tell<SweepTold>>(k: Result<Option<Touch>, R>, answer: &mut [i64]) -> u32
+    requires { AnswerFits (kerbed_by R.told k) (length answer.old) }
+    ensures { TellEnsures (touch_told (kerbed_by R.told k)) answer.old result answer.new }
 {
     match k {
         Ok(None) => {

@@ -6,4 +6,4 @@ use Rattle.answer_text.proofs.text_of.Goals as goal
 
 pub returns-in-Ok : goal.returns-in-Ok
 unfolding printed
-returns-in-Ok c = rw c.in-Ok.is (whole _ _ 166 (omega arith) c.finished_text.ensures)
+returns-in-Ok g c = rw c.in-Ok.is (whole _ _ 166 (omega arith) c.finished_text.ensures)
