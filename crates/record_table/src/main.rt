@@ -2,14 +2,14 @@
 // The cases stand on standard input, one to a line.
 #![tactic(auto)]
 
+mod cases;
 mod records;
 
-use crate::records::{Case, Field};
+use crate::cases::Table;
+use crate::records::Case;
 use job::Job;
 use refusal::Fault;
-use std::str;
 use trial_tools::counts::Count;
-use trial_tools::reading::number_in;
 use trial_tools::tables;
 
 // No record of the table fits 20 bytes: 28, and nothing is written.
@@ -33,68 +33,24 @@ fn holds(c: Case) -> bool {
     let record = records::record_of(c);
     match job_reader::read_job(record.bytes()) {
         Ok(job) => c.number == 0 && has_no_room(job) && writes_back(job, record.bytes()),
-        Err(refusal) => refusal.fault.number() == c.number && refusal.place == record.place,
+        Err(refusal) => {
+            u32::from(refusal.fault.number()) == c.number && refusal.place == record.place
+        }
     }
 }
 
-// The numbers of a case, none for one that cannot be read.
-type Numbers = [Option<i32>; 7];
+// How many cases are tried at most.
+const MOST_CASES: u64 = 200;
 
-// Kept: the new form is no plainer: the cases write a refusal as its number, which is only compared.
-fn case_of(numbers: Numbers) -> Option<Case> {
-    let [units, elements, field, index, value, number, placed] = numbers;
-    Some(Case {
-        units: units?,
-        elements: elements?,
-        field: field_of(field?)?,
-        index: index?,
-        value: value?,
-        number: u8::try_from(number?).ok()?,
-        placed: field_of(placed?)?,
-    })
-}
-
-fn field_of(number: i32) -> Option<Field> {
-    Field::numbered(usize::try_from(number).ok()?)
-}
-
-fn try_case(numbers: Numbers) -> Option<()> {
-    holds(case_of(numbers)?).then_some(())
-}
-
-// Whether a byte can stand in a number; whatever else stands between numbers is passed over.
-fn is_of_number(b: u8) -> bool {
-    b.is_ascii_digit() || b == b'-'
-}
-
-fn number_of(word: &[u8]) -> Option<i32> {
-    number_in(str::from_utf8(word).ok()?)
-}
-
-// The cases are numbered from 1.
-fn enter(count: &mut Count, answer: Option<()>) {
-    let number = count.all.wrapping_add(1);
-    count.enter(number, answer);
-}
-
+// The cases are numbered from 1; one that is cut short ends in zeros.
 fn try_cases(table: &[u8]) -> Count {
     let mut count = Count::default();
-    let mut numbers = [None; 7];
-    let mut read = 0;
-    for word in table.split(|b| !is_of_number(*b)) {
-        if !word.iter().any(|b| b.is_ascii_digit()) {
-            continue;
+    let mut table = Table::of(table);
+    for number in 1..=MOST_CASES {
+        if table.is_read() {
+            break;
         }
-        numbers[read] = number_of(word);
-        read += 1;
-        if read == numbers.len() {
-            enter(&mut count, try_case(numbers));
-            read = 0;
-        }
-    }
-    // A case that is cut short does not hold.
-    if read != 0 {
-        enter(&mut count, None);
+        count.enter(number, holds(table.case()).then_some(()));
     }
     count
 }

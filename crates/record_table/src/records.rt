@@ -68,16 +68,16 @@ impl Field {
 }
 
 // A record of so many units, 10 more in a long job, and of so many elements, whose field, at an index, holds a value; then the refusal's number,
-// 0 for none, and the field where it is placed.
+// 0 for none, and the field where it is placed. A record has no field beyond those that the cases number, so that none stands for one.
 #[derive(Clone, Copy)]
 pub struct Case {
-    pub units: i32,
-    pub elements: i32,
-    pub field: Field,
-    pub index: i32,
+    pub units: u32,
+    pub elements: u32,
+    pub field: Option<Field>,
+    pub index: u32,
     pub value: i32,
-    pub number: u8,
-    pub placed: Field,
+    pub number: u32,
+    pub placed: Option<Field>,
 }
 
 impl Case {
@@ -130,12 +130,12 @@ impl Record {
     }
 
     // The case's value where it is the field in question, else the usual one.
-    fn put_field(&mut self, c: Case, field: Field, index: i32, usual: i32) {
+    fn put_field(&mut self, c: Case, field: Field, index: u32, usual: i32) {
         let wanted = if c.field == c.placed { c.index } else { 0 };
-        if field == c.placed && index == wanted {
+        if Some(field) == c.placed && index == wanted {
             self.place = self.length;
         }
-        let is_case = field == c.field && index == c.index;
+        let is_case = Some(field) == c.field && index == c.index;
         self.put_number(field.written(if is_case { c.value } else { usual }));
     }
 
@@ -163,9 +163,14 @@ impl Record {
     }
 }
 
+// A number of nine digits, which has 31 bits.
+pub fn signed(number: u32) -> i32 {
+    i32::try_from(number).unwrap_or(i32::MAX)
+}
+
 pub fn record_of(c: Case) -> Record {
     let mut record = Record::empty();
-    record.put_field(c, Field::Units, 0, c.units);
+    record.put_field(c, Field::Units, 0, signed(c.units));
     record.put_units(c);
     record.put_field(c, Field::Overhang, 0, if c.is_long() { 0 } else { 10000 });
     record.put_field(c, Field::Front, 0, 12000);
@@ -175,7 +180,7 @@ pub fn record_of(c: Case) -> Record {
     record.put_field(c, Field::Gx, 0, 0);
     record.put_field(c, Field::Gy, 0, 1000000);
     record.put_field(c, Field::Step, 0, 20000);
-    record.put_field(c, Field::Elements, 0, c.elements);
+    record.put_field(c, Field::Elements, 0, signed(c.elements));
     record.put_elements(c);
     record
 }

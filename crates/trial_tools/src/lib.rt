@@ -3,6 +3,7 @@
 
 pub mod arguments;
 pub mod counts;
+pub mod digits;
 pub mod places;
 pub mod reading;
 pub mod rigs;

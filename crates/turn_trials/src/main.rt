@@ -6,12 +6,11 @@ mod spread;
 mod table;
 
 use crate::spread::{ROWS, Squares};
+use crate::table::Figures;
 use job::{Job, Vehicle};
 use path::{Path, PathRoom};
 use plane::Vec2;
 use reaches::ReachRoom;
-use std::str;
-use std::str::SplitAsciiWhitespace;
 use trial_tools::{places, rigs, tables};
 use walk::Walk;
 
@@ -22,13 +21,13 @@ fn full_turn() -> Job {
 
 // The cells of a row, which are those of points 1 to 5, against the points drawn.
 fn measure_row(
-    figures: &mut SplitAsciiWhitespace<'_>,
+    figures: &mut Figures<'_>,
     row: usize,
     drawn: [Vec2; marks::POINT_CAPACITY],
     points: &mut [Squares; 5],
 ) {
     for (squares, place) in points.iter_mut().zip(&drawn[1..6]) {
-        let cell = table::read_cell(figures);
+        let cell = figures.cell();
         if let Some(square) = squares.get_mut(row) {
             *square = cell.and_then(|printed| places::square_between(printed, *place));
         }
@@ -36,21 +35,23 @@ fn measure_row(
 }
 
 // Kept: the new form is no plainer: the number of stations is none of the five points.
-// The row of the station reached against the rig there, where it is that station's row.
+// The row of the station reached against the rig there, where it is that station's row and the table goes on.
 fn measure_station(
     w: Walk,
     asked: usize,
     path: Path<'_>,
-    figures: &mut SplitAsciiWhitespace<'_>,
+    figures: &mut Figures<'_>,
     points: &mut [Squares; 5],
 ) -> Option<()> {
-    let row: usize = table::read_figure(figures)?;
+    let left = figures.left();
+    // Kept: the new form is no plainer: usize has no From of a u32, and try_from would answer an error that cannot come.
+    let row = figures.figure().size as usize;
     if row != w.station {
         return None;
     }
     let drawn = places::points_at(w, asked, path)?;
     measure_row(figures, row, drawn, points);
-    Some(())
+    (figures.left() < left).then_some(())
 }
 
 // Kept: the five points, for the reason given above.
@@ -60,7 +61,7 @@ fn measure_walk(
     asked: usize,
     path: Path<'_>,
     room: &mut ReachRoom<'_>,
-    figures: &mut SplitAsciiWhitespace<'_>,
+    figures: &mut Figures<'_>,
     points: &mut [Squares; 5],
 ) -> usize {
     let mut w = rigs::placed(v, asked, path, room);
@@ -75,7 +76,7 @@ fn measure_walk(
 }
 
 // The path is laid and the rig walked along it; the rows measured.
-fn measure(j: Job, text: &str, points: &mut [Squares; 5]) -> usize {
+fn measure(j: Job, text: &[u8], points: &mut [Squares; 5]) -> usize {
     let mut path_room = PathRoom {
         xs: &mut [0i32; ROWS],
         ys: &mut [0i32; ROWS],
@@ -90,7 +91,7 @@ fn measure(j: Job, text: &str, points: &mut [Squares; 5]) -> usize {
     let Ok(asked) = path::lay(j, &mut path_room) else {
         return 0;
     };
-    let mut figures = text.split_ascii_whitespace();
+    let mut figures = Figures::of(text);
     measure_walk(
         j.vehicle,
         asked,
@@ -114,8 +115,7 @@ fn main(rt: HostRuntime) {
     let mut text = [0u8; 65536];
     let length = tables::read_table(&rt, "table.txt", &mut text).unwrap_or(0);
     let mut points = [[None; ROWS]; 5];
-    let figures = str::from_utf8(&text[..length]).unwrap_or("");
-    let rows = measure(full_turn(), figures, &mut points);
+    let rows = measure(full_turn(), &text[..length], &mut points);
     let _compared = println!(&rt; "full turn on 7.5 m: {rows} stations compared");
     let _left_out = println!(&rt; "left front corner: left out");
     report(&rt, "right front corner", &points[0]);
