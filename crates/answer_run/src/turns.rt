@@ -43,6 +43,10 @@ fn vector_entries(d: Vec2) -> [i64; 2]
 pub fn path_turn(gx: i64, gy: i64, s: u32, r: i32, answer: &mut [i64]) -> u32
     ensures { Answered 4 (path_told (path_turn (record { x = gx; y = gy }) s r)) answer.old result answer.new }
 {
+    // No turn is worked out that cannot be told.
+    if answer.len() < 4 {
+        return crate::too_short();
+    }
     let turn = heading::turn_path(Vec2 { x: gx, y: gy }, s, r);
     tell(turn.map(path_entries), answer)
 }
@@ -51,6 +55,9 @@ pub fn path_turn(gx: i64, gy: i64, s: u32, r: i32, answer: &mut [i64]) -> u32
 pub fn unit_turn(dx: i64, dy: i64, fx: i64, fy: i64, wheelbase: u32, answer: &mut [i64]) -> u32
     ensures { Answered 2 (unit_told (unit_turn (record { x = dx; y = dy }) (record { x = fx; y = fy }) wheelbase)) answer.old result answer.new }
 {
+    if answer.len() < 2 {
+        return crate::too_short();
+    }
     let turn = unit::turn_unit(Vec2 { x: dx, y: dy }, Vec2 { x: fx, y: fy }, wheelbase);
     tell(turn.map(vector_entries), answer)
 }
