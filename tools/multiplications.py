@@ -18,6 +18,8 @@ PRODUCT_BODY = "u64 :: from ( a ) * u64 :: from ( b )"
 TURNED_BODY = "plane :: settle ( mirror :: mirrored_vector ( d , f ) , l )"
 # What of the standard library may be called: the size of a whole number, and a whole number in a wider type; neither multiplies.
 PLAIN = {(".unsigned_abs",), *((kind, "from") for kind in WHOLE_TYPES)}
+# What would give these names another meaning, wherever in the source it stands.
+OWN = re.compile(r"\bfn\s+(unsigned_abs)\b|\b(From)\b[^{;]*\bfor\s+(?:%s)\b" % "|".join(sorted(WHOLE_TYPES)))
 LOOPS = {"while", "loop", "for"}
 WHOLE_NUMBER = re.compile(r"[0-9_]+([iu](8|16|32|64|128|size))?")
 # What may follow an operand that is a literal and no more.
@@ -121,8 +123,17 @@ def check_shifts(bodies):
                 raise Forbidden(f"{told(function)} has {token} by more than a literal")
 
 
-def check(texts):
-    """The functions that were read; what is not allowed is raised."""
+def check_plain(texts, paths):
+    """What may be called of the standard library is nowhere written anew, comments not told apart."""
+    for path in paths:
+        own = OWN.search(texts(path) or "")
+        if own:
+            raise Forbidden(f"{path} has a {own[1] or own[2]} of its own")
+
+
+def check(texts, paths):
+    """The functions that were read; what is not allowed is raised. `paths` are all files of the source."""
+    check_plain(texts, paths)
     source = Source(texts)
     mirror = source.module(MIRROR)
     check_turned(source.module(("unit", "lib")))
@@ -153,7 +164,7 @@ def try_samples():
     wrong = 0
     for name, files, expected in tried:
         try:
-            check(files.get)
+            check(files.get, files)
             answer = ""
         except (Forbidden, Unreadable) as reason:
             answer = str(reason).split(".rt: ")[-1]
@@ -166,7 +177,7 @@ def try_samples():
 def main():
     wrong, count = try_samples()
     try:
-        found = check(file_text)
+        found = check(file_text, [str(file.relative_to(ROOT)) for file in sorted(ROOT.glob("crates/*/src/**/*.rt"))])
     except Unreadable as reason:
         print(f"the source of the mirror image cannot be searched for multiplications: {reason}")
         return 1

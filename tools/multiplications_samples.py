@@ -1,7 +1,7 @@
 """What tools/multiplications.py is tried on: small texts in place of the source, each changed in one way, with the reason it must be
 refused for, or none where it must be accepted."""
 
-UNIT, MIRROR, PLANE, EXACT = (f"crates/{path}.rt" for path in ("unit/src/lib", "unit/src/mirror", "plane/src/lib", "exact/src/lib"))
+UNIT, MIRROR, PLANE, SIZES, EXACT = (f"crates/{path}.rt" for path in ("unit/src/lib", "unit/src/mirror", "plane/src/lib", "plane/src/sizes", "exact/src/lib"))
 
 BASE = {
     UNIT: """
@@ -49,6 +49,9 @@ pub fn nearest_vector(v: Vec2, d: i64) -> Vec2
     let x = exact::nearest(v.x, d);
     Vec2 { x, y: x }
 }
+""",
+    SIZES: """
+fn east(d: Vec2) -> i64 { d.x * 1 }
 """,
     EXACT: """
 pub fn nearest(n: i64, d: i64) -> i64 { n / d + n % d }
@@ -121,6 +124,8 @@ CALLS = [
     ("a multiplying function of a type", MIRROR, "d.x + f.x", "i64::pow(d.x, 2)", "unit::mirror::mirrored_vector calls i64::pow, which is not read"),
     ("a conversion of its own", MIRROR, "d.x + f.x", "Wide::from(d.x)", "unit::mirror::mirrored_vector calls Wide::from, which is not read"),
     ("another type's size", MIRROR, "d.x + f.x", "Wide::unsigned_abs(d.x)", "unit::mirror::mirrored_vector calls Wide::unsigned_abs, which is not read"),
+    ("a pair's own size", SIZES, "fn east(d: Vec2) -> i64 { d.x * 1 }", "impl Vec2 { pub fn unsigned_abs(self) -> u64 { (self.x * self.y) as u64 } }", "crates/plane/src/sizes.rt has a unsigned_abs of its own"),
+    ("a pair's own conversion", SIZES, "fn east(d: Vec2) -> i64 { d.x * 1 }", "impl From<Vec2> for i64 { fn from(d: Vec2) -> i64 { d.x * d.y } }", "crates/plane/src/sizes.rt has a From of its own"),
     ("plane's wide dot product", MIRROR, "d.x + f.x", "plane::dot(d, f)", "plane::dot has *"),
     ("the same under an imported name", MIRROR, SUM, SUM + "    dot(d, f);\n", "plane::dot has *", IMPORT, IMPORT + "\nuse plane::dot;"),
     ("a function of the crate's root", MIRROR, "d.x + f.x", "crate::squared(d.x)", "unit::mirror::mirrored_vector calls crate::squared, which is not read"),
